@@ -1,0 +1,16 @@
+use borrow.Author.Tests.{eq-eqb, ne-eqb}
+use Rattle.tlp.proofs.completion.count_in.Statement.{statement}
+use Rattle.tlp.proofs.completion.count_in.Tie as tie
+use Rattle.tlp.proofs.completion.count_in.Reads as reads
+use Rattle.tlp.proofs.completion.count_in.Lts as lts
+
+-- src/completion.rt:127:9
+returns : tie.Need-returns
+returns c = rw (eq-eqb _ _ (c .if1 .taken))
+
+-- src/completion.rt:123:1
+returns-2 : tie.Need-returns-2
+returns-2 c = rw (ne-eqb _ _ (c .if1 .left))
+
+pub count-in-spec : {M : Type 1} → statement M
+count-in-spec = tie.close (tie.spec returns returns-2)

@@ -1,0 +1,4 @@
+pub mod Bytes
+pub mod Request
+pub mod Completion
+pub mod Laws
