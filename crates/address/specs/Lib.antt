@@ -1,0 +1,4 @@
+pub mod Windows
+pub mod Settings
+pub mod Laws
+pub mod Examples
