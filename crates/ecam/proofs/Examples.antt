@@ -1,0 +1,34 @@
+-- The worked examples compute; W9 wants a step for each test.
+use mathlib.Core.Path.{_≡_, refl}
+use mathlib.Core.Bool.{false}
+use Prim.Native.Nat.{ℕ, _^_, _<_}
+use lib.Dec.{lit<}
+use Rattle.tlp.specs.Request.{requestBytes, formatType, targetBytes}
+use Rattle.ecam.specs.Offset.{bus}
+use Rattle.ecam.specs.Request.{configRequest, configTarget, configAddress}
+use Rattle.ecam.specs.Registers.{fresh}
+use Rattle.ecam.specs.Route.{outOfRange, route, numberOf}
+use Rattle.ecam.specs.Examples.{W7, W8, W9, buses}
+use native.Mathlib.Omega.{arith}
+use borrow.Author.Tests.{lt-leb}
+
+pub w7 : W7
+unfolding route configRequest configTarget configAddress requestBytes formatType targetBytes
+w7 = record { goes = refl; header = refl }
+
+pub w8 : W8
+unfolding route
+w8 = record { last = refl; eleven = refl; past = refl; nine = refl }
+
+-- an offset on bus b < 256 is in range of 8 bus bits
+in-range : (b o : ℕ) → bus o ≡ b → b < 256 → outOfRange 8 o ≡ false
+in-range b o e h = lt-leb (2 ^ 28) o (omega arith)
+
+pub w9 : W9
+unfolding route fresh
+w9 =
+    record {
+      local = λ o e. rw (in-range 0 o e (lit< tt), e);
+      next = λ o e. rw (in-range 1 o e (lit< tt), e);
+      crossed = λ o e. rw (in-range 3 o e (lit< tt), e);
+    }

@@ -1,0 +1,6 @@
+pub mod Words
+pub mod Routes
+pub mod Requests
+pub mod Writes
+pub mod Shown
+pub mod Examples

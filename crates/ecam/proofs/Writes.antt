@@ -1,0 +1,302 @@
+-- What a local write and a raised bit change.
+use mathlib.Core.Path.{_≡_, refl, sym, ap, _∙_}
+use mathlib.Core.Bool.{Bool, true, false, cond, not, _&&_}
+use Prim.Native.Nat.{ℕ, _+_, _*_, _/_, _%_, _^_, _≤_, _<_, zero-le}
+use native.Mathlib.Nat.{mod-lt, zero-lt-suc, mod-mod}
+use native.Mathlib.Decide.{decLt}
+use native.Mathlib.Omega.{arith}
+use lib.Dec.{eqb, ltb, lit<}
+use borrow.Author.Tests.{eq-eqb, ne-eqb, eqb-true, eqb-false}
+use Rattle.bits.specs.Bits.{isSet, fromBits, setBit}
+use Rattle.bits.proofs.Flags.{apart, and-left, and-true, and-false}
+use Rattle.bits.proofs.Bits.{from-bits-has, from-bits-fits, same-bits, none-above, set-sets}
+use Rattle.ecam.specs.declared.Registers.{Registers}
+use Rattle.ecam.specs.Registers.{isDecodeBit, decodeWord, byte, strobe, strobed, reached, cleared, masked, numbered, localWrite, writeBuses, writeDisable, withDecode, withMask, raised, fresh}
+use Rattle.ecam.specs.Laws.{OnlyNamed, WriteOnlyNamed, WriteIgnored, WriteSetsNone, OneWritten, WriteClearsOnes, NoStrobes, StrobesMod16, OnlyDecodeBits, Held, FreshHeld, WriteHeld, RaiseHeld, DecodeWord, Raised, RaiseSets, RaiseAgain, RaiseOther}
+use Rattle.ecam.proofs.Words.{no-decode-bit}
+
+-- which word was written, and what became of the registers
+pub data Wrote (r : Registers) (w s d : ℕ) : Registers → Type 0 where
+  buses : w ≡ 0x018 → Wrote r w s d (writeBuses r s d)
+  disable : w ≡ 0x134 → Wrote r w s d (writeDisable r s d)
+  decode : w ≡ 0x138 → Wrote r w s d (withDecode r (cleared (r .decode) s d))
+  mask : w ≡ 0x13C → Wrote r w s d (withMask r (masked (r .mask) s d))
+  none : (w ≡ 0x018 → ⊥) → (w ≡ 0x134 → ⊥) → (w ≡ 0x138 → ⊥) → (w ≡ 0x13C → ⊥) → Wrote r w s d r
+
+pub wrote : (r : Registers) (w s d : ℕ) → Wrote r w s d (localWrite r w s d)
+unfolding localWrite
+wrote r w s d = by (eqb w 0x018) (eqb w 0x134) (eqb w 0x138) (eqb w 0x13C) refl refl refl refl
+  where
+    by : (a b c e : Bool) → eqb w 0x018 ≡ a → eqb w 0x134 ≡ b → eqb w 0x138 ≡ c → eqb w 0x13C ≡ e
+        → Wrote r w s d (cond a (writeBuses r s d) (cond b (writeDisable r s d) (cond c (withDecode r (cleared (r .decode) s d)) (cond e (withMask r (masked (r .mask) s d)) r))))
+    by true b c e p q x y = buses (eqb-true w 0x018 p)
+    by false true c e p q x y = disable (eqb-true w 0x134 q)
+    by false false true e p q x y = decode (eqb-true w 0x138 x)
+    by false false false true p q x y = mask (eqb-true w 0x13C y)
+    by false false false false p q x y = none (eqb-false w 0x018 p) (eqb-false w 0x134 q) (eqb-false w 0x138 x) (eqb-false w 0x13C y)
+
+-- ---- only what is named
+
+number-kept : (x s d j w k : ℕ) → w ≡ k → (eqb w k && strobe s j) ≡ false → numbered x s d j ≡ x
+unfolding numbered
+number-kept x s d j w k e h = let f : strobe s j ≡ false = rw (eq-eqb w k e) at h in rw f
+
+cleared-kept : (x s d i : ℕ) → i < 32 → reached s i ≡ false → isSet (cleared x s d) i ≡ isSet x i
+unfolding cleared
+cleared-kept x s d i l f = from-bits-has 32 (λ i. isSet x i && not (reached s i && isSet d i)) i l ∙ rw f (and-true (isSet x i))
+
+masked-kept : (x s d i : ℕ) → i < 32 → reached s i ≡ false → isSet (masked x s d) i ≡ isSet x i
+unfolding masked
+masked-kept x s d i l f = from-bits-has 32 (λ i. cond (reached s i) (isSet d i) (isSet x i)) i l ∙ rw f
+
+only-named : (r : Registers) (w s d : ℕ) (q : Registers) → Wrote r w s d q → OnlyNamed r w s q
+unfolding writeBuses writeDisable strobed
+only-named r w s d q (buses e) =
+    record {
+      primary = λ h. number-kept (r .primary) s d 0 w 0x018 e h;
+      secondary = λ h. number-kept (r .secondary) s d 1 w 0x018 e h;
+      subordinate = λ h. number-kept (r .subordinate) s d 2 w 0x018 e h;
+      disable = λ h. refl;
+      decode = λ i l h. refl;
+      mask = λ i l h. refl;
+      link = refl;
+    }
+only-named r w s d q (disable e) =
+    record {
+      primary = λ h. refl;
+      secondary = λ h. refl;
+      subordinate = λ h. refl;
+      disable = λ h. let f : strobe s 1 ≡ false = rw (eq-eqb w 0x134 e) at h in rw f;
+      decode = λ i l h. refl;
+      mask = λ i l h. refl;
+      link = refl;
+    }
+only-named r w s d q (decode e) =
+    record {
+      primary = λ h. refl;
+      secondary = λ h. refl;
+      subordinate = λ h. refl;
+      disable = λ h. refl;
+      decode = λ i l h. let f : reached s i ≡ false = rw (eq-eqb w 0x138 e) at h in cleared-kept (r .decode) s d i l f;
+      mask = λ i l h. refl;
+      link = refl;
+    }
+only-named r w s d q (mask e) =
+    record {
+      primary = λ h. refl;
+      secondary = λ h. refl;
+      subordinate = λ h. refl;
+      disable = λ h. refl;
+      decode = λ i l h. refl;
+      mask = λ i l h. let f : reached s i ≡ false = rw (eq-eqb w 0x13C e) at h in masked-kept (r .mask) s d i l f;
+      link = refl;
+    }
+only-named r w s d q (none a b c e) =
+    record {
+      primary = λ h. refl;
+      secondary = λ h. refl;
+      subordinate = λ h. refl;
+      disable = λ h. refl;
+      decode = λ i l h. refl;
+      mask = λ i l h. refl;
+      link = refl;
+    }
+
+pub write-only-named : WriteOnlyNamed
+write-only-named r w s d = only-named r w s d (localWrite r w s d) (wrote r w s d)
+
+pub write-ignored : WriteIgnored
+unfolding localWrite
+write-ignored r w s d a b c e = rw (ne-eqb w 0x018 a, ne-eqb w 0x134 b, ne-eqb w 0x138 c, ne-eqb w 0x13C e)
+
+-- ---- decode bits are only cleared
+
+cleared-was : (x s d i : ℕ) → i < 32 → isSet (cleared x s d) i ≡ true → isSet x i ≡ true
+unfolding cleared
+cleared-was x s d i l h = and-left (isSet x i) (not (reached s i && isSet d i)) (sym (from-bits-has 32 (λ i. isSet x i && not (reached s i && isSet d i)) i l) ∙ h)
+
+sets-none : (r : Registers) (w s d i : ℕ) (q : Registers) → Wrote r w s d q → i < 32 → isSet (q .decode) i ≡ true → isSet (r .decode) i ≡ true
+unfolding writeBuses writeDisable
+sets-none r w s d i q (buses e) l h = h
+sets-none r w s d i q (disable e) l h = h
+sets-none r w s d i q (decode e) l h = cleared-was (r .decode) s d i l h
+sets-none r w s d i q (mask e) l h = h
+sets-none r w s d i q (none a b c e) l h = h
+
+pub write-sets-none : WriteSetsNone
+write-sets-none r w s d i l h = sets-none r w s d i (localWrite r w s d) (wrote r w s d) l h
+
+cleared-one : (x s d i : ℕ) → i < 32 → isSet x i ≡ true → isSet (cleared x s d) i ≡ false → OneWritten 0x138 s d i
+unfolding cleared reached
+cleared-one x s d i l o h =
+    by (strobed s i) (isDecodeBit i) (isSet d i) refl refl refl
+    (sym (from-bits-has 32 (λ i. isSet x i && not (reached s i && isSet d i)) i l) ∙ h)
+  where
+    by : (a b c : Bool) → strobed s i ≡ a → isDecodeBit i ≡ b → isSet d i ≡ c → (isSet x i && not (a && b && c)) ≡ false → OneWritten 0x138 s d i
+    by true true true p q t z = record { there = refl; bit = q; chosen = p; one = t }
+    by true true false p q t z = absurd (apart (sym (rw o at z)))
+    by true false c p q t z = absurd (apart (sym (rw o at z)))
+    by false b c p q t z = absurd (apart (sym (rw o at z)))
+
+clears-ones : (r : Registers) (w s d i : ℕ) (q : Registers) → Wrote r w s d q → i < 32 → isSet (r .decode) i ≡ true → isSet (q .decode) i ≡ false → OneWritten w s d i
+unfolding writeBuses writeDisable
+clears-ones r w s d i q (buses e) l o h = absurd (apart (sym h ∙ o))
+clears-ones r w s d i q (disable e) l o h = absurd (apart (sym h ∙ o))
+clears-ones r w s d i q (decode e) l o h = rw e (cleared-one (r .decode) s d i l o h)
+clears-ones r w s d i q (mask e) l o h = absurd (apart (sym h ∙ o))
+clears-ones r w s d i q (none a b c e) l o h = absurd (apart (sym h ∙ o))
+
+pub write-clears-ones : WriteClearsOnes
+write-clears-ones r w s d i l o h = clears-ones r w s d i (localWrite r w s d) (wrote r w s d) l o h
+
+-- ---- strobes
+
+pub strobes-mod-16 : StrobesMod16
+unfolding localWrite writeBuses writeDisable numbered cleared masked reached strobed strobe
+strobes-mod-16 r w s d = simp (mod-mod s 16)
+
+no-strobe : (j : ℕ) → strobe 0 j ≡ false
+unfolding strobe
+no-strobe j = none-above 0 0 j (zero-lt-suc 0) zero-le
+
+not-reached : (i : ℕ) → reached 0 i ≡ false
+unfolding reached strobed
+not-reached i = rw (no-strobe (i / 8))
+
+number-stays : (x d j : ℕ) → numbered x 0 d j ≡ x
+unfolding numbered
+number-stays x d j = rw (no-strobe j)
+
+cleared-stays : (x d : ℕ) → x < 2 ^ 32 → cleared x 0 d ≡ x
+cleared-stays x d h =
+    same-bits 32 (cleared x 0 d) x (unfold cleared in from-bits-fits 32 (λ i. isSet x i && not (reached 0 i && isSet d i))) h
+    (λ i l. cleared-kept x 0 d i l (not-reached i))
+
+masked-stays : (x d : ℕ) → x < 2 ^ 32 → masked x 0 d ≡ x
+masked-stays x d h =
+    same-bits 32 (masked x 0 d) x (unfold masked in from-bits-fits 32 (λ i. cond (reached 0 i) (isSet d i) (isSet x i))) h
+    (λ i l. masked-kept x 0 d i l (not-reached i))
+
+stays : (r : Registers) (w d : ℕ) (q : Registers) → Wrote r w 0 d q → r .decode < 2 ^ 32 → r .mask < 2 ^ 32 → q ≡ r
+unfolding writeBuses writeDisable strobed
+stays r w d q (buses e) hd hm = rw (number-stays (r .primary) d 0, number-stays (r .secondary) d 1, number-stays (r .subordinate) d 2)
+stays r w d q (disable e) hd hm = rw (no-strobe 1)
+stays r w d q (decode e) hd hm = rw (cleared-stays (r .decode) d hd)
+stays r w d q (mask e) hd hm = rw (masked-stays (r .mask) d hm)
+stays r w d q (none a b c e) hd hm = refl
+
+pub no-strobes : NoStrobes
+no-strobes r w d hd hm = stays r w d (localWrite r w 0 d) (wrote r w 0 d) hd hm
+
+-- ---- decode's bits stay the only ones
+
+cleared-only : (x s d : ℕ) → OnlyDecodeBits x → OnlyDecodeBits (cleared x s d)
+cleared-only x s d h i f = elim (decLt i 32) [ yes l ↦ low l (isSet (cleared x s d) i) refl | no g ↦ high (omega arith) ]
+  where
+    low : i < 32 → (y : Bool) → isSet (cleared x s d) i ≡ y → isSet (cleared x s d) i ≡ false
+    low l true e = absurd (apart (sym (h i f) ∙ cleared-was x s d i l e))
+    low l false e = e
+
+    high : 32 ≤ i → isSet (cleared x s d) i ≡ false
+    high g = none-above 32 (cleared x s d) i (unfold cleared in from-bits-fits 32 (λ i. isSet x i && not (reached s i && isSet d i))) g
+
+masked-only : (x s d : ℕ) → OnlyDecodeBits x → OnlyDecodeBits (masked x s d)
+unfolding masked reached
+masked-only x s d h i f = elim (decLt i 32) [ yes l ↦ low l | no g ↦ high (omega arith) ]
+  where
+    low : i < 32 → isSet (masked x s d) i ≡ false
+    low l = from-bits-has 32 (λ i. cond (reached s i) (isSet d i) (isSet x i)) i l ∙ rw (f, and-false (strobed s i)) (h i f)
+
+    high : 32 ≤ i → isSet (masked x s d) i ≡ false
+    high g = none-above 32 (masked x s d) i (from-bits-fits 32 (λ i. cond (reached s i) (isSet d i) (isSet x i))) g
+
+number-fits : (x s d j : ℕ) → x < 2 ^ 8 → numbered x s d j < 2 ^ 8
+unfolding numbered byte
+number-fits x s d j h = by (strobe s j)
+  where
+    by : (a : Bool) → cond a (d / 2 ^ (8 * j) % 2 ^ 8) x < 2 ^ 8
+    by true = mod-lt (d / 2 ^ (8 * j)) (lit< tt)
+    by false = h
+
+pub fresh-held : FreshHeld
+unfolding fresh
+fresh-held =
+    record {
+      primary = lit< tt;
+      secondary = lit< tt;
+      subordinate = lit< tt;
+      decode = λ i f. none-above 0 0 i (zero-lt-suc 0) zero-le;
+      mask = λ i f. none-above 0 0 i (zero-lt-suc 0) zero-le;
+    }
+
+held : (r : Registers) (w s d : ℕ) (q : Registers) → Wrote r w s d q → Held r → Held q
+unfolding writeBuses writeDisable
+held r w s d q (buses e) h =
+    record {
+      primary = number-fits (r .primary) s d 0 (h .primary);
+      secondary = number-fits (r .secondary) s d 1 (h .secondary);
+      subordinate = number-fits (r .subordinate) s d 2 (h .subordinate);
+      decode = h .decode;
+      mask = h .mask;
+    }
+held r w s d q (disable e) h =
+    record { primary = h .primary; secondary = h .secondary; subordinate = h .subordinate; decode = h .decode; mask = h .mask }
+held r w s d q (decode e) h =
+    record {
+      primary = h .primary;
+      secondary = h .secondary;
+      subordinate = h .subordinate;
+      decode = cleared-only (r .decode) s d (h .decode);
+      mask = h .mask;
+    }
+held r w s d q (mask e) h =
+    record {
+      primary = h .primary;
+      secondary = h .secondary;
+      subordinate = h .subordinate;
+      decode = h .decode;
+      mask = masked-only (r .mask) s d (h .mask);
+    }
+held r w s d q (none a b c e) h = h
+
+pub write-held : WriteHeld
+write-held r w s d h = held r w s d (localWrite r w s d) (wrote r w s d) h
+
+-- ---- a raised bit
+
+pub decode-below : (t : ℕ) → isDecodeBit t ≡ true → t < 32
+decode-below t e = elim (decLt t 32) [ yes l ↦ l | no g ↦ absurd (apart (sym (no-decode-bit t (omega arith)) ∙ e)) ]
+
+pub raise-sets : RaiseSets
+unfolding raised
+raise-sets w t e = let s = set-sets 32 w t (decode-below t e) in rw e (record { here = s .here; others = s .others })
+
+pub raise-again : RaiseAgain
+unfolding raised setBit
+raise-again w t e = by (isDecodeBit t) (ltb t 32)
+  where
+    by : (a b : Bool) → cond a (cond (b && not (isSet w t)) (w + 2 ^ t) w) w ≡ w
+    by true true = rw e
+    by true false = refl
+    by false b = refl
+
+pub raise-other : RaiseOther
+unfolding raised
+raise-other w t e = rw e
+
+raised-only : (w t : ℕ) → OnlyDecodeBits w → OnlyDecodeBits (raised w t)
+raised-only w t h = by (isDecodeBit t) refl
+  where
+    by : (a : Bool) → isDecodeBit t ≡ a → OnlyDecodeBits (raised w t)
+    by true e = λ i f. raise-sets w t e .others i (λ (z : i ≡ t). apart (sym f ∙ (ap isDecodeBit z ∙ e))) ∙ h i f
+    by false e = rw (raise-other w t e) h
+
+pub raise-held : RaiseHeld
+raise-held r i h =
+    record {
+      primary = h .primary;
+      secondary = h .secondary;
+      subordinate = h .subordinate;
+      decode = raised-only (r .decode) i (h .decode);
+      mask = h .mask;
+    }

@@ -1,0 +1,142 @@
+use borrow.Author.Needs.{needs}
+use borrow.Author.Tests.{eq-eqb, ne-eqb, le-leb, lt-leb}
+use Rattle.ecam.specs.Route.{route}
+use Rattle.ecam.proofs.route_of.Statement.{statement}
+use Rattle.ecam.proofs.route_of.Tie as tie
+
+out-of-range-requires : tie.Need-out-of-range-requires
+out-of-range-requires c κs = search needs
+
+returns : tie.Need-returns
+unfolding route
+returns c = rw (← c .before .out-of-range .ensures, c .if1 .taken)
+
+bus-requires : tie.Need-bus-requires
+bus-requires c κs = search needs
+
+wide-requires : tie.Need-wide-requires
+wide-requires c κs = search needs
+
+word-requires : tie.Need-word-requires
+word-requires c κs = search needs
+
+returns-2 : tie.Need-returns-2
+unfolding route
+returns-2 c =
+    rw (
+      ← c .before .before .before .before .before .out-of-range .ensures,
+      c .before .before .before .before .if1 .left,
+      ← c .before .before .before .bus .ensures,
+      ← c .before .before .wide .ensures,
+      eq-eqb _ _ (c .before .if2 .taken),
+      c .word .ensures,
+    )
+
+wide-requires-2 : tie.Need-wide-requires-2
+wide-requires-2 c κs = search needs
+
+returns-3 : tie.Need-returns-3
+unfolding route
+returns-3 c =
+    rw (
+      ← c .before .before .before .before .before .before .out-of-range .ensures,
+      c .before .before .before .before .before .if1 .left,
+      ← c .before .before .before .before .bus .ensures,
+      ← c .before .before .before .wide .ensures,
+      ne-eqb _ _ (c .before .before .if2 .left),
+      ← c .before .wide2 .ensures,
+      lt-leb _ _ (c .if3 .taken),
+    )
+
+wide-requires-3 : tie.Need-wide-requires-3
+wide-requires-3 c κs = search needs
+
+returns-4 : tie.Need-returns-4
+unfolding route
+returns-4 c =
+    rw (
+      ← c .before .before .before .before .before .before .before .before .out-of-range .ensures,
+      c .before .before .before .before .before .before .before .if1 .left,
+      ← c .before .before .before .before .before .before .bus .ensures,
+      ← c .before .before .before .before .before .wide .ensures,
+      ne-eqb _ _ (c .before .before .before .before .if2 .left),
+      ← c .before .before .before .wide2 .ensures,
+      le-leb _ _ (c .before .before .if3 .left),
+      ← c .before .wide3 .ensures,
+      lt-leb _ _ (c .if4 .taken),
+    )
+
+device-requires : tie.Need-device-requires
+device-requires c κs = search needs
+
+returns-5 : tie.Need-returns-5
+unfolding route
+returns-5 c =
+    rw (
+      ← c .before .before .before .before .before .before .before .before .before .before .out-of-range .ensures,
+      c .before .before .before .before .before .before .before .before .before .if1 .left,
+      ← c .before .before .before .before .before .before .before .before .bus .ensures,
+      ← c .before .before .before .before .before .before .before .wide .ensures,
+      ne-eqb _ _ (c .before .before .before .before .before .before .if2 .left),
+      ← c .before .before .before .before .before .wide2 .ensures,
+      le-leb _ _ (c .before .before .before .before .if3 .left),
+      ← c .before .before .before .wide3 .ensures,
+      le-leb _ _ (c .before .before .if4 .left),
+      ← c .before .device .ensures,
+      ne-eqb _ _ (c .if5 .taken),
+    )
+
+returns-6 : tie.Need-returns-6
+unfolding route
+returns-6 c =
+    rw (
+      ← c .before .before .before .before .before .before .before .before .before .before .before .out-of-range .ensures,
+      c .before .before .before .before .before .before .before .before .before .before .if1 .left,
+      ← c .before .before .before .before .before .before .before .before .before .bus .ensures,
+      ← c .before .before .before .before .before .before .before .before .wide .ensures,
+      ne-eqb _ _ (c .before .before .before .before .before .before .before .if2 .left),
+      ← c .before .before .before .before .before .before .wide2 .ensures,
+      le-leb _ _ (c .before .before .before .before .before .if3 .left),
+      ← c .before .before .before .before .wide3 .ensures,
+      le-leb _ _ (c .before .before .before .if4 .left),
+      ← c .before .before .device .ensures,
+      eq-eqb _ _ (c .before .if5 .left),
+      eq-eqb _ _ (c .if6 .taken),
+    )
+
+returns-7 : tie.Need-returns-7
+unfolding route
+returns-7 c =
+    rw (
+      ← c .before .before .before .before .before .before .before .before .before .before .before .out-of-range .ensures,
+      c .before .before .before .before .before .before .before .before .before .before .if1 .left,
+      ← c .before .before .before .before .before .before .before .before .before .bus .ensures,
+      ← c .before .before .before .before .before .before .before .before .wide .ensures,
+      ne-eqb _ _ (c .before .before .before .before .before .before .before .if2 .left),
+      ← c .before .before .before .before .before .before .wide2 .ensures,
+      le-leb _ _ (c .before .before .before .before .before .if3 .left),
+      ← c .before .before .before .before .wide3 .ensures,
+      le-leb _ _ (c .before .before .before .if4 .left),
+      ← c .before .before .device .ensures,
+      eq-eqb _ _ (c .before .if5 .left),
+      ne-eqb _ _ (c .if6 .left),
+    )
+
+pub route-of-spec : {M : Type 1} → statement M
+route-of-spec =
+    tie.close
+    (tie.spec
+    out-of-range-requires
+    returns
+    bus-requires
+    wide-requires
+    word-requires
+    returns-2
+    wide-requires-2
+    returns-3
+    wide-requires-3
+    returns-4
+    device-requires
+    returns-5
+    returns-6
+    returns-7)

@@ -1,0 +1,6 @@
+pub mod Offset
+pub mod Route
+pub mod Registers
+pub mod Request
+pub mod Laws
+pub mod Examples

@@ -1,0 +1,137 @@
+-- The local words, and the registers that they show.
+use Prim.Native.Nat.{ℕ, _+_, _*_, _/_, _%_, _^_}
+use mathlib.Core.List.{List, [], _∷_}
+use mathlib.Core.Bool.{Bool, true, false, cond, not, _&&_, _||_}
+use lib.Dec.{eqb}
+use Rattle.common.specs.Tests.{firstOf}
+use Rattle.bits.specs.Bits.{isSet, fromBits, setBit}
+use Rattle.ecam.specs.declared.Registers.{Registers}
+
+-- some number of a list passes a test
+unfoldable pub some : (ℕ → Bool) → List ℕ → Bool
+some p [] = false
+some p (n ∷ ns) = p n || some p ns
+
+-- 'decode bits 0, 8, 20 to 25'
+unfoldable pub decodeBits : List ℕ
+decodeBits = 0 ∷ 8 ∷ 20 ∷ 21 ∷ 22 ∷ 23 ∷ 24 ∷ 25 ∷ []
+
+unfoldable pub isDecodeBit : ℕ → Bool
+isDecodeBit i = some (eqb i) decodeBits
+
+-- the word with a one at each of them
+unfoldable pub decodeWord : ℕ
+decodeWord = fromBits 32 isDecodeBit
+
+-- byte j of a word
+unfoldable pub byte : ℕ → ℕ → ℕ
+byte w j = w / 2 ^ (8 * j) % 2 ^ 8
+
+-- 'Strobes choose bytes': strobe j, of the strobes mod 16, chooses byte j
+unfoldable pub strobe : ℕ → ℕ → Bool
+strobe s j = isSet (s % 16) j
+
+-- the bit at i lies in a strobed byte
+unfoldable pub strobed : ℕ → ℕ → Bool
+strobed s i = strobe s (i / 8)
+
+-- the bits of 138 and 13C that a write reaches
+unfoldable pub reached : ℕ → ℕ → Bool
+reached s i = strobed s i && isDecodeBit i
+
+-- what 138 and 13C show: decode's bits, and nothing else
+unfoldable pub shown : ℕ → ℕ
+shown w = fromBits 32 (λ i. isSet w i && isDecodeBit i)
+
+-- 138 'cleared by writing one'
+unfoldable pub cleared : ℕ → ℕ → ℕ → ℕ
+cleared w s d = fromBits 32 (λ i. isSet w i && not (reached s i && isSet d i))
+
+-- 13C 'the mask of those bits'
+unfoldable pub masked : ℕ → ℕ → ℕ → ℕ
+masked w s d = fromBits 32 (λ i. cond (reached s i) (isSet d i) (isSet w i))
+
+-- a byte of 018, as the write leaves it
+unfoldable pub numbered : ℕ → ℕ → ℕ → ℕ → ℕ
+numbered x s d j = cond (strobe s j) (byte d j) x
+
+-- a local read: each word's value; 'Everything else reads 0'
+unfoldable pub localRead : Registers → ℕ → ℕ
+localRead r w =
+    firstOf
+    ((eqb w 0x018, r .primary % 2 ^ 8 + r .secondary % 2 ^ 8 * 2 ^ 8 + r .subordinate % 2 ^ 8 * 2 ^ 16)
+    ∷ (eqb w 0x130, 0x0000000B)
+    ∷ (eqb w 0x134, cond (r .disable) (2 ^ 8) 0)
+    ∷ (eqb w 0x138, shown (r .decode))
+    ∷ (eqb w 0x13C, shown (r .mask))
+    ∷ (eqb w 0x144, cond (r .link) (2 ^ 11) 0)
+    ∷ [])
+
+-- the registers after a write of d to one of the words
+unfoldable pub writeBuses : Registers → ℕ → ℕ → Registers
+writeBuses r s d =
+    record {
+      primary = numbered (r .primary) s d 0;
+      secondary = numbered (r .secondary) s d 1;
+      subordinate = numbered (r .subordinate) s d 2;
+      disable = r .disable;
+      decode = r .decode;
+      mask = r .mask;
+      link = r .link;
+    }
+
+unfoldable pub writeDisable : Registers → ℕ → ℕ → Registers
+writeDisable r s d =
+    record {
+      primary = r .primary;
+      secondary = r .secondary;
+      subordinate = r .subordinate;
+      disable = cond (strobed s 8) (isSet d 8) (r .disable);
+      decode = r .decode;
+      mask = r .mask;
+      link = r .link;
+    }
+
+abbrev pub withDecode : Registers → ℕ → Registers
+withDecode r x =
+    record {
+      primary = r .primary;
+      secondary = r .secondary;
+      subordinate = r .subordinate;
+      disable = r .disable;
+      decode = x;
+      mask = r .mask;
+      link = r .link;
+    }
+
+abbrev pub withMask : Registers → ℕ → Registers
+withMask r x =
+    record {
+      primary = r .primary;
+      secondary = r .secondary;
+      subordinate = r .subordinate;
+      disable = r .disable;
+      decode = r .decode;
+      mask = x;
+      link = r .link;
+    }
+
+-- a local write; 'Everything else .. ignores writes'
+unfoldable pub localWrite : Registers → ℕ → ℕ → ℕ → Registers
+localWrite r w s d =
+    cond (eqb w 0x018) (writeBuses r s d)
+    (cond (eqb w 0x134) (writeDisable r s d)
+    (cond (eqb w 0x138) (withDecode r (cleared (r .decode) s d))
+    (cond (eqb w 0x13C) (withMask r (masked (r .mask) s d)) r)))
+
+-- decode once a cause is seen: its bit is set; a number that is no decode bit sets none
+unfoldable pub raised : ℕ → ℕ → ℕ
+raised w i = cond (isDecodeBit i) (setBit 32 w i) w
+
+-- 'The line is high when decode and mask share a bit and bit 8 of 134 is 0'
+unfoldable pub line : Registers → Bool
+line r = not (r .disable) && some (λ i. isSet (r .decode) i && isSet (r .mask) i) decodeBits
+
+-- a fresh bridge's registers: link down, all zero
+unfoldable pub fresh : Registers
+fresh = record { primary = 0; secondary = 0; subordinate = 0; disable = false; decode = 0; mask = 0; link = false }

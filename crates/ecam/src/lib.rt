@@ -1,0 +1,346 @@
+// Configuration space: where an access goes, and the registers that the local words show.
+use tlp::request::ConfigAddress;
+use tlp::request::Request;
+use tlp::request::Target;
+ghost use mathlib.Core.Path.{_≡_};
+ghost use mathlib.Core.Bool.{cond};
+ghost use Prim.Native.Nat.{_%_, _<_};
+ghost use Rattle.bits.specs.Bits.{isSet, fromBits};
+ghost use Rattle.ecam.specs.Offset.{register, extended, function, device, bus, word};
+ghost use Rattle.ecam.specs.Route.{outOfRange, route, numberOf};
+ghost use Rattle.ecam.specs.Request.{configAddress, configTarget, configRequest, dataBytes, dataWord};
+ghost use Rattle.ecam.specs.Registers.{strobed, reached, numbered, shown, cleared, masked, localRead, localWrite, raised, line};
+
+pub struct Registers {
+    pub primary: u32,
+    pub secondary: u32,
+    pub subordinate: u32,
+    pub disable: bool,
+    pub decode: u32,
+    pub mask: u32,
+    pub link: bool,
+}
+
+pub enum Route {
+    OutOfRange,
+    Local(u32),
+    Type0,
+    Type1,
+    NotRouted,
+    DeviceNotZero,
+}
+
+// Bits 0, 8 and 20 to 25.
+const DECODE: u32 = 0x03F0_0101;
+
+pub fn register(offset: u64) -> u32
+    ensures { λ r. ⌜ r ≡ register offset ⌝ }
+{
+    ((offset >> 2) % 64) as u32
+}
+
+pub fn extended(offset: u64) -> u32
+    ensures { λ r. ⌜ r ≡ extended offset ⌝ }
+{
+    ((offset >> 8) % 16) as u32
+}
+
+pub fn function(offset: u64) -> u32
+    ensures { λ r. ⌜ r ≡ function offset ⌝ }
+{
+    ((offset >> 12) % 8) as u32
+}
+
+pub fn device(offset: u64) -> u32
+    ensures { λ r. ⌜ r ≡ device offset ⌝ }
+{
+    ((offset >> 15) % 32) as u32
+}
+
+pub fn bus(offset: u64) -> u64
+    ensures { λ r. ⌜ r ≡ bus offset ⌝ }
+{
+    offset >> 20
+}
+
+pub fn word(offset: u64) -> u32
+    ensures { λ r. ⌜ r ≡ word offset ⌝ }
+{
+    (offset % 4096 / 4 * 4) as u32
+}
+
+fn out_of_range(n: u32, offset: u64) -> bool
+    ensures { λ r. ⌜ r ≡ outOfRange n offset ⌝ }
+{
+    if n < 44 {
+        return (1 << (20 + n)) <= offset;
+    }
+    false
+}
+
+fn wide(x: u32) -> u64
+    ensures { λ r. ⌜ r ≡ x ⌝ }
+{
+    x as u64
+}
+
+// Where an access at this offset goes, with n bus bits.
+pub fn route_of(n: u32, r: Registers, offset: u64) -> Route
+    ensures { λ x. ⌜ x ≡ route n r offset ⌝ }
+{
+    if out_of_range(n, offset) {
+        return Route::OutOfRange;
+    }
+    let b = bus(offset);
+    let p = wide(r.primary);
+    if b == p {
+        return Route::Local(word(offset));
+    }
+    let s = wide(r.secondary);
+    if b < s {
+        return Route::NotRouted;
+    }
+    let e = wide(r.subordinate);
+    if e < b {
+        return Route::NotRouted;
+    }
+    let d = device(offset);
+    if d != 0 {
+        return Route::DeviceNotZero;
+    }
+    if b == s {
+        return Route::Type0;
+    }
+    Route::Type1
+}
+
+// The route's refusal number.
+pub fn number_of(x: Route) -> u32
+    ensures { λ r. ⌜ r ≡ numberOf x ⌝ }
+{
+    match x {
+        Route::OutOfRange => 9,
+        Route::Local(_) => 0,
+        Route::Type0 => 0,
+        Route::Type1 => 0,
+        Route::NotRouted => 10,
+        Route::DeviceNotZero => 11,
+    }
+}
+
+// The offset's fields, as a header has them.
+fn config_address(offset: u64) -> ConfigAddress
+    ensures { λ r. ⌜ r ≡ configAddress offset ⌝ }
+{
+    ConfigAddress {
+        bus: (bus(offset) % 256) as u32,
+        device: device(offset),
+        function: function(offset),
+        extended: extended(offset),
+        register: register(offset),
+    }
+}
+
+fn config_target(x: Route, offset: u64) -> Target
+    ensures { λ r. ⌜ r ≡ configTarget x offset ⌝ }
+{
+    let a = config_address(offset);
+    match x {
+        Route::OutOfRange => Target::Config0(a),
+        Route::Local(_) => Target::Config0(a),
+        Route::Type0 => Target::Config0(a),
+        Route::Type1 => Target::Config1(a),
+        Route::NotRouted => Target::Config0(a),
+        Route::DeviceNotZero => Target::Config0(a),
+    }
+}
+
+fn first_enables(write: bool, strobes: u32) -> u32
+    ensures { λ r. ⌜ r ≡ cond write (strobes % 16) 15 ⌝ }
+{
+    if write { strobes % 16 } else { 15 }
+}
+
+// The request of a routed access.
+pub fn config_request(
+    x: Route,
+    offset: u64,
+    write: bool,
+    strobes: u32,
+    requester: u32,
+    tag: u32,
+) -> Request
+    ensures { λ r. ⌜ r ≡ configRequest x offset write strobes requester tag ⌝ }
+{
+    let target = config_target(x, offset);
+    let first = first_enables(write, strobes);
+    Request {
+        write: write,
+        target: target,
+        length: 1,
+        requester: requester,
+        tag: tag,
+        last: 0,
+        first: first,
+    }
+}
+
+// The bytes of a data word, low byte first.
+pub fn data_bytes(w: u32) -> [u8; 4]
+    ensures { λ r. ⌜ r ≡ dataBytes w ⌝ }
+{
+    [
+        (w % 256) as u8,
+        (w / 256 % 256) as u8,
+        (w / 65536 % 256) as u8,
+        (w / 16777216 % 256) as u8,
+    ]
+}
+
+// The data word of four bytes, low byte first.
+pub fn data_word(s: &[u8]) -> u32
+    ensures { λ r. ⌜ r ≡ dataWord (now (s .entry)) ⌝ }
+{
+    if s.len() < 4 {
+        return 0;
+    }
+    common::wide(s[0])
+        + common::wide(s[1]) * 256
+        + common::wide(s[2]) * 65536
+        + common::wide(s[3]) * 16777216
+}
+
+// The bits of the strobed bytes.
+fn lanes(strobes: u32) -> u32
+    ensures { λ r. ⌜ r ≡ fromBits 32 (strobed strobes) ⌝ }
+{
+    let s = strobes % 16;
+    (s % 2) * 0x0000_00FF
+        + (s / 2 % 2) * 0x0000_FF00
+        + (s / 4 % 2) * 0x00FF_0000
+        + (s / 8 % 2) * 0xFF00_0000
+}
+
+// The bits of 138 and 13C that a write reaches.
+fn reach(strobes: u32) -> u32
+    ensures { λ r. ⌜ r ≡ fromBits 32 (reached strobes) ⌝ }
+{
+    lanes(strobes) & DECODE
+}
+
+fn show(w: u32) -> u32
+    ensures { λ r. ⌜ r ≡ shown w ⌝ }
+{
+    w & DECODE
+}
+
+fn clear_ones(w: u32, strobes: u32, data: u32) -> u32
+    ensures { λ r. ⌜ r ≡ cleared w strobes «data» ⌝ }
+{
+    let m = reach(strobes);
+    w & !(m & data)
+}
+
+fn set_mask(w: u32, strobes: u32, data: u32) -> u32
+    ensures { λ r. ⌜ r ≡ masked w strobes «data» ⌝ }
+{
+    let m = reach(strobes);
+    (m & data) | (w & !m)
+}
+
+// Byte j of the data where its strobe is on, else the number as it is.
+fn set_number(x: u32, strobes: u32, data: u32, j: u32) -> u32
+    requires { ⌜ j < 4 ⌝ }
+    ensures { λ r. ⌜ r ≡ numbered x strobes «data» j ⌝ }
+{
+    if bits::is_set(strobes % 16, j) {
+        return (data >> (8 * j)) % 256;
+    }
+    x
+}
+
+fn set_disable(x: bool, strobes: u32, data: u32) -> bool
+    ensures { λ r. ⌜ r ≡ cond (strobed strobes 8) (isSet «data» 8) x ⌝ }
+{
+    if bits::is_set(strobes % 16, 1) {
+        return bits::is_set(data, 8);
+    }
+    x
+}
+
+fn flag(b: bool, w: u32) -> u32
+    ensures { λ r. ⌜ r ≡ cond b w 0 ⌝ }
+{
+    if b { w } else { 0 }
+}
+
+// What a local word shows.
+pub fn local_read(r: Registers, word: u32) -> u32
+    ensures { λ v. ⌜ v ≡ localRead r word ⌝ }
+{
+    if word == 0x018 {
+        return r.primary % 256 + r.secondary % 256 * 256 + r.subordinate % 256 * 65536;
+    }
+    if word == 0x130 {
+        return 0x0000_000B;
+    }
+    if word == 0x134 {
+        return flag(r.disable, 256);
+    }
+    if word == 0x138 {
+        return show(r.decode);
+    }
+    if word == 0x13C {
+        return show(r.mask);
+    }
+    if word == 0x144 {
+        return flag(r.link, 2048);
+    }
+    0
+}
+
+// The registers after a write to a local word.
+pub fn local_write(r: Registers, word: u32, strobes: u32, data: u32) -> Registers
+    ensures { λ q. ⌜ q ≡ localWrite r word strobes «data» ⌝ }
+{
+    let mut q = r;
+    if word == 0x018 {
+        q.primary = set_number(r.primary, strobes, data, 0);
+        q.secondary = set_number(r.secondary, strobes, data, 1);
+        q.subordinate = set_number(r.subordinate, strobes, data, 2);
+        return q;
+    }
+    if word == 0x134 {
+        q.disable = set_disable(r.disable, strobes, data);
+        return q;
+    }
+    if word == 0x138 {
+        q.decode = clear_ones(r.decode, strobes, data);
+        return q;
+    }
+    if word == 0x13C {
+        q.mask = set_mask(r.mask, strobes, data);
+        return q;
+    }
+    q
+}
+
+// The decode word with a cause's bit set.
+pub fn raise(decode: u32, i: u32) -> u32
+    ensures { λ r. ⌜ r ≡ raised decode i ⌝ }
+{
+    if bits::is_set(DECODE, i) {
+        return bits::set(decode, i);
+    }
+    decode
+}
+
+// The interrupt line.
+pub fn line(r: Registers) -> bool
+    ensures { λ x. ⌜ x ≡ line r ⌝ }
+{
+    if r.disable {
+        return false;
+    }
+    (r.decode & r.mask) & DECODE != 0
+}
