@@ -1,0 +1,78 @@
+-- One turn of a read: a piece more is opened, and its header sent.
+use mathlib.Core.Path.{_≡_, refl, sym, ap, _∙_}
+use mathlib.Core.Bool.{Bool, true, false}
+use mathlib.Core.List.{List, [], _∷_, _++_}
+use Prim.Native.Nat.{ℕ, suc, _+_, _≤_, _<_}
+use native.Mathlib.Numerals.{add-one}
+use native.Mathlib.Omega.{arith}
+use lib.ListN.{length, getD, length-append}
+use lib.Seq.{paste}
+use Rattle.bits.specs.Bits.{clearBit}
+use Rattle.tags.specs.Tags.{lowest, available}
+use Rattle.tags.proofs.Tags.{lowest-is, take-one-less}
+use Rattle.address.specs.declared.Windows.{Windows}
+use Rattle.address.specs.Windows.{axi, translated}
+use Rattle.burst.specs.declared.Burst.{Burst}
+use Rattle.burst.specs.declared.Piece.{Piece}
+use Rattle.bridge.specs.declared.Bridge.{Bridge}
+use Rattle.bridge.specs.State.{tagCount, opened}
+use Rattle.bridge.specs.Memory.{filled, windowFor, indexOf, pcieOf, pieceOf, placeIn, memoryRequest, pieceRequest, packet, readTo, readSent}
+use Rattle.bridge.proofs.Packets.{fill-more}
+
+-- the address behind the burst's window
+pub behind : (w : Windows) (q : Burst) (base target x : ℕ) → base ≡ getD (w .base) (indexOf (windowFor w q)) 0 → target ≡ getD (w .target) (indexOf (windowFor w q)) 0
+    → translated base target (axi x) .0 ≡ pcieOf w q x
+unfolding pcieOf
+behind w q base target x e f = rw (e, f)
+
+-- a tag is free while one is available, and then one less is
+pub lowest-below : (f : ℕ) → 0 < available tagCount f → lowest tagCount f < tagCount
+lowest-below f h = lowest-is tagCount f h .tag .below
+
+pub one-less : (f : ℕ) → 0 < available tagCount f → available tagCount f ≡ suc (available tagCount (clearBit f (lowest tagCount f)))
+one-less f h = take-one-less tagCount f (lowest tagCount f) (lowest-is tagCount f h .tag)
+
+pub opened-free : (slot place n : ℕ) (b c : Bridge) → c ≡ opened slot place n b → c .core .free ≡ clearBit (b .core .free) (lowest tagCount (b .core .free))
+unfolding opened
+opened-free slot place n b c e = ap (λ (x : Bridge). x .core .free) e
+
+pub record Turned (slot : ℕ) (q : Burst) (b₀ b : Bridge) (area₀ area : List ℕ) (at k : ℕ) : Type 0 where
+  pub bridge-is : b ≡ readTo slot q b₀ k
+  pub at-is : at ≡ length (readSent slot q b₀ k)
+  pub area-is : area ≡ filled (readSent slot q b₀ k) area₀
+
+pub turned-none : (slot : ℕ) (q : Burst) (b : Bridge) (area : List ℕ) → Turned slot q b b area area 0 0
+unfolding readTo readSent
+turned-none slot q b area = record { bridge-is = refl; at-is = refl; area-is = refl }
+
+module _ (slot : ℕ) (q : Burst) (b₀ : Bridge) (area₀ : List ℕ) (base target : ℕ)
+    (eb : base ≡ getD (b₀ .settings .windows .base) (indexOf (windowFor (b₀ .settings .windows) q)) 0)
+    (et : target ≡ getD (b₀ .settings .windows .target) (indexOf (windowFor (b₀ .settings .windows) q)) 0) where
+  abbrev p : ℕ → Piece
+  p k = pieceOf (b₀ .settings .reads) q k
+
+  abbrev pub sends : Bridge → ℕ → List ℕ
+  sends b k = packet (memoryRequest false (b₀ .settings .requester) (lowest tagCount (b .core .free)) (translated base target (axi (p k .first)) .0) (p k .length)) []
+
+  pub turned-more : (b c : Bridge) (area after : List ℕ) (at next k : ℕ) → Turned slot q b₀ b area₀ area at k
+      → c ≡ opened slot (placeIn q (p k)) (p k .length) b
+      → next ≡ at + length (sends b k)
+      → after ≡ paste area at (sends b k) (length (sends b k))
+      → Turned slot q b₀ c area₀ after next (k + 1)
+  unfolding readTo readSent
+  turned-more b c area after at next k t eo en ea =
+      let s = readSent slot q b₀ k in
+      let d = packet (pieceRequest false (b₀ .settings) q (lowest tagCount (readTo slot q b₀ k .core .free)) (p k)) [] in
+      let e : sends b k ≡ d =
+      ap (λ (x : ℕ). packet (memoryRequest false (b₀ .settings .requester) (lowest tagCount (b .core .free)) x (p k .length)) []) (behind (b₀ .settings .windows) q base target (p k .first) eb et)
+      ∙ ap (λ (x : Bridge). packet (pieceRequest false (b₀ .settings) q (lowest tagCount (x .core .free)) (p k)) []) (t .bridge-is) in
+      rw (add-one k)
+      (record {
+        bridge-is = eo ∙ ap (opened slot (placeIn q (p k)) (p k .length)) (t .bridge-is);
+        at-is = en ∙ ap (λ (x : List ℕ). at + length x) e ∙ ap (λ (x : ℕ). x + length d) (t .at-is) ∙ sym (length-append s d);
+        area-is =
+            ea ∙ ap (λ (x : List ℕ). paste area at x (length x)) e
+            ∙ ap (λ (x : List ℕ). paste x at d (length d)) (t .area-is)
+            ∙ ap (λ (x : ℕ). paste (filled s area₀) x d (length d)) (t .at-is)
+            ∙ fill-more s d area₀;
+      })

@@ -1,0 +1,23 @@
+use Rattle.bridge.specs.State.{shut}
+use mathlib.Core.Path.{_≡_, refl, sym, ap, _∙_}
+use borrow.Author.Needs.{needs}
+use Rattle.bridge.proofs.complete.shut_in.Statement.{statement}
+use Rattle.bridge.proofs.complete.shut_in.Tie as tie
+use Rattle.bridge.proofs.complete.shut_in.Reads as reads
+use Rattle.bridge.proofs.complete.shut_in.Lts as lts
+
+-- src/complete.rt:119:5
+mul-missing : tie.Need-mul-missing
+mul-missing c = search needs
+
+-- src/complete.rt:119:5
+element-write-missing : tie.Need-element-write-missing
+element-write-missing c = search needs
+
+-- src/complete.rt:115:1
+returns : tie.Need-returns
+unfolding shut
+returns c = λ b. refl
+
+pub shut-in-spec : {M : Type 1} → statement M
+shut-in-spec = tie.close (tie.spec mul-missing element-write-missing returns)

@@ -1,0 +1,180 @@
+-- Completions (01, 'Completions'): the bridge and the store that is lent to it, together.
+use Prim.Native.Nat.{ℕ, _+_, _-_, _*_, _%_, min}
+use mathlib.Core.List.{List, [], _∷_, _++_}
+use mathlib.Core.Bool.{Bool, true, false, cond, not, _&&_}
+use lib.ListN.{length, getD, set, take, drop, replicate}
+use lib.Seq.{paste}
+use lib.Dec.{ltb, leb, eqb}
+use Rattle.common.specs.Tests.{firstOf}
+use Rattle.tlp.specs.declared.completion.Completion.{Completion}
+use Rattle.tlp.specs.declared.completion.CompletionRead.{CompletionRead}
+use Rattle.tlp.specs.declared.completion.CompletionRead.the-variants.{Header, Malformed}
+use Rattle.tlp.specs.Completion.{readCompletion}
+use Rattle.ecam.specs.Request.{dataWord}
+use Rattle.bridge.specs.declared.ConfigSlot.{ConfigSlot}
+use Rattle.bridge.specs.declared.Bridge.{Bridge}
+use Rattle.bridge.specs.declared.Answer.{Answer}
+use Rattle.bridge.specs.declared.Answered.{Answered}
+use Rattle.bridge.specs.declared.Response.the-variants as response
+use Rattle.bridge.specs.declared.Cause.{Cause}
+use Rattle.bridge.specs.declared.Cause.the-variants.{UnsupportedRequest, RequestRetry, CompleterAbort, Poison, Timeout}
+use Rattle.bridge.specs.declared.Verdict.{Verdict}
+use Rattle.bridge.specs.declared.Verdict.the-variants.{Unexpected, Good, Poisoned, Failed}
+use Rattle.bridge.specs.State.{tagCount, withConfig, coreIn, slotsIn, raise, missingOf, placeOf, ownerOf, isOpen, counted, shut, freed, okay, slverr, accepted, refusal, refusalChange}
+use Rattle.bridge.specs.Verdict.{memoryVerdict, configVerdict, causeResponse, causeBit}
+
+-- 'a lent store of at least 32,768 bytes'; slot k's bytes 'lie from 4,096k'
+abbrev pub storeSize : ℕ
+storeSize = 32768
+
+-- the bridge and its store
+pub record Held : Type 0 where
+  pub bridge : Bridge
+  pub store : List ℕ
+
+abbrev pub held : Bridge → List ℕ → Held
+held b s = record { bridge = b; store = s }
+
+-- ---- slots
+
+-- the first n bytes of slot k are zero
+abbrev pub zeroed : ℕ → ℕ → List ℕ → List ℕ
+zeroed k n store = paste store (4096 * k) (replicate n 0) n
+
+-- how many bytes slot k's burst has; a slot has 4,096
+abbrev pub sizeOf : Bridge → ℕ → ℕ
+sizeOf b k = min (getD (b .size) k 0) 4096
+
+-- a piece of slot k failed at this place. Pieces are disjoint ranges of places, and a piece that fails again fails at a
+-- later place: so the failure at the least place is the first failed piece's in address order, by its first cause
+unfoldable pub faulted : ℕ → ℕ → ℕ → Bridge → Bridge
+faulted k place code b =
+    cond (ltb place (getD (b .fault) k 0))
+    (slotsIn (b .state) (b .start) (b .size) (b .pieces) (set (b .fault) k place) (set (b .cause) k code) b) b
+
+-- a memory read's piece failed: its decode bit is set when the cause is seen
+unfoldable pub failed : ℕ → ℕ → Cause → Bridge → Bridge
+failed k place cause b = raise (causeBit cause) (faulted k place (causeResponse cause) b)
+
+-- the read in slot k is finished; 'the burst's whole length in the slot is zero' unless it is OKAY
+unfoldable pub finished : ℕ → Held → Held
+finished k h =
+    held
+    (slotsIn (set (h .bridge .state) k 2) (h .bridge .start) (h .bridge .size) (set (h .bridge .pieces) k 0) (h .bridge .fault)
+    (h .bridge .cause) (h .bridge))
+    (cond (eqb (getD (h .bridge .cause) k 0) okay) (h .store) (zeroed k (sizeOf (h .bridge) k) (h .store)))
+
+-- a piece of slot k is closed; 'A read is finished when all pieces are closed'
+unfoldable pub pieceClosed : ℕ → Held → Held
+pieceClosed k h =
+    cond (leb (getD (h .bridge .pieces) k 0) 1) (finished k h)
+    (held (slotsIn (h .bridge .state) (h .bridge .start) (h .bridge .size)
+    (set (h .bridge .pieces) k (getD (h .bridge .pieces) k 0 - 1)) (h .bridge .fault) (h .bridge .cause) (h .bridge)) (h .store))
+
+-- 'A piece closes, and its tag is free'
+abbrev pub closed : ℕ → ℕ → Held → Held
+closed t k h = pieceClosed k (held (freed t (shut t (h .bridge))) (h .store))
+
+-- n bytes have come for tag t, the last perhaps
+unfoldable pub advanced : ℕ → ℕ → ℕ → Held → Held
+advanced t k n h =
+    cond (leb (missingOf (h .bridge) t) n) (closed t k (held (counted t n (h .bridge)) (h .store)))
+    (held (counted t n (h .bridge)) (h .store))
+
+-- ---- a completion for a memory read in slot k
+
+-- the useful bytes stand in the payload from lower mod 4 on
+abbrev pub usefulBytes : ℕ → ℕ → List ℕ → List ℕ
+usefulBytes skip n payload = take n (drop skip payload)
+
+unfoldable pub memoryCompleted : Held → ℕ → ℕ → ℕ → List ℕ → Verdict → Held
+memoryCompleted h t k skip payload Unexpected = h
+memoryCompleted h t k skip payload (Good n) =
+    advanced t k n
+    (held (h .bridge) (paste (h .store) (4096 * k + placeOf (h .bridge) t) (usefulBytes skip n payload) n))
+memoryCompleted h t k skip payload (Poisoned n) =
+    advanced t k n (held (failed k (placeOf (h .bridge) t) Poison (h .bridge)) (h .store))
+memoryCompleted h t k skip payload (Failed cause) =
+    closed t k (held (failed k (placeOf (h .bridge) t) cause (h .bridge)) (h .store))
+
+-- ---- a completion for the configuration access
+
+-- its finished slot
+abbrev pub configDone : ConfigSlot → ℕ → ℕ → ConfigSlot
+configDone c code word = record { state = 2; write = c .write; response = code; word = word }
+
+-- 'UR read gives OKAY and all ones; UR write SLVERR. CRS, CA, poison, timeout: SLVERR, data 0'
+unfoldable pub configAnswer : ConfigSlot → List ℕ → Verdict → ConfigSlot
+configAnswer c payload Unexpected = c
+configAnswer c payload (Good n) = configDone c okay (cond (c .write) 0 (dataWord payload))
+configAnswer c payload (Poisoned n) = configDone c slverr 0
+configAnswer c payload (Failed UnsupportedRequest) = cond (c .write) (configDone c slverr 0) (configDone c okay 0xFFFFFFFF)
+configAnswer c payload (Failed RequestRetry) = configDone c slverr 0
+configAnswer c payload (Failed CompleterAbort) = configDone c slverr 0
+configAnswer c payload (Failed Poison) = configDone c slverr 0
+configAnswer c payload (Failed Timeout) = configDone c slverr 0
+
+-- 'closed by its first expected completion'
+unfoldable pub configCompleted : Bridge → ℕ → List ℕ → Verdict → Bridge
+configCompleted b t payload v =
+    freed t (shut t (coreIn (withConfig (configAnswer (b .core .config) payload v) (b .core)) b))
+
+-- ---- any completion
+
+-- 'the requester ID is ours, the tag is open', and what the piece makes of it; the next address is the slot's first
+-- address plus the place
+abbrev pub nextAddress : Bridge → ℕ → ℕ
+nextAddress b t = getD (b .start) (ownerOf b t) 0 + placeOf b t
+
+unfoldable pub verdictOf : Bridge → Completion → Verdict
+verdictOf b c =
+    cond (eqb (c .requester) (b .settings .requester) && isOpen (missingOf b (c .tag)) (placeOf b (c .tag)))
+    (cond (ltb (ownerOf b (c .tag)) 8) (memoryVerdict c (missingOf b (c .tag)) (nextAddress b (c .tag)))
+    (configVerdict c (b .core .config .write)))
+    Unexpected
+
+-- 'Payload is 4 x length bytes .. Else malformed'
+abbrev pub withPayload : List ℕ → CompletionRead → CompletionRead
+withPayload s (Header c) = cond (eqb (length s) (12 + 4 * c .length)) (Header c) Malformed
+withPayload s Malformed = Malformed
+
+unfoldable pub completionOf : List ℕ → CompletionRead
+completionOf s = withPayload s (readCompletion (take 12 s))
+
+abbrev pub isUnexpected : Verdict → Bool
+isUnexpected Unexpected = true
+isUnexpected (Good n) = false
+isUnexpected (Poisoned n) = false
+isUnexpected (Failed cause) = false
+
+abbrev pub readRefused : Bridge → CompletionRead → ℕ
+readRefused b (Header c) = cond (isUnexpected (verdictOf b c)) 13 0
+readRefused b Malformed = 12
+
+-- order: completion 8, 12, 13
+unfoldable pub completeRefusal : Bridge → ℕ → List ℕ → ℕ
+completeRefusal b room s = cond (ltb room storeSize) 8 (readRefused b (completionOf s))
+
+unfoldable pub expected : Held → Completion → List ℕ → Held
+expected h c payload =
+    cond (ltb (ownerOf (h .bridge) (c .tag)) 8)
+    (memoryCompleted h (c .tag) (ownerOf (h .bridge) (c .tag)) (c .lower % 4) payload (verdictOf (h .bridge) c))
+    (held (configCompleted (h .bridge) (c .tag) payload (verdictOf (h .bridge) c)) (h .store))
+
+abbrev pub completedBy : Held → List ℕ → CompletionRead → Held
+completedBy h s (Header c) = expected h c (drop 12 s)
+completedBy h s Malformed = h
+
+-- the bridge and the store after a completion, of any bytes; 13 sets bit 21
+unfoldable pub completed : Held → List ℕ → Held
+completed h s =
+    cond (eqb (completeRefusal (h .bridge) (length (h .store)) s) 0) (completedBy h s (completionOf s))
+    (held (coreIn (refusalChange (completeRefusal (h .bridge) (length (h .store)) s) (h .bridge .core)) (h .bridge)) (h .store))
+
+-- what an event that sends nothing answers
+abbrev pub plain : ℕ → Answer
+plain number = cond (eqb number 0) (accepted response.Nothing 0 0 0) (refusal number)
+
+abbrev pub completeStep : Bridge → List ℕ → List ℕ → Answered
+completeStep b store s =
+    record { bridge = completed (held b store) s .bridge; answer = plain (completeRefusal b (length store) s) }

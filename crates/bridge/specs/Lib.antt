@@ -1,0 +1,16 @@
+pub mod State
+pub mod Memory
+pub mod MemorySteps
+pub mod MemoryLaws
+pub mod MemoryExamples
+pub mod Config
+pub mod Verdict
+pub mod Completions
+pub mod Lent
+pub mod CompletionLaws
+pub mod CompletionExamples
+pub mod Ticks
+pub mod Take
+pub mod Examples
+pub mod ConfigLaws
+pub mod TickLaws

@@ -1,0 +1,49 @@
+-- Taking a finished answer: a look and a release, 'two calls with one set of refusals' (01, 'Ticks and the link').
+use Prim.Native.Nat.{ℕ, _*_}
+use mathlib.Core.List.{List, [], _∷_}
+use mathlib.Core.Bool.{Bool, true, false, cond, not}
+use lib.ListN.{length, getD, set, take, drop}
+use lib.Dec.{ltb, leb, eqb}
+use Rattle.common.specs.Tests.{firstOf}
+use Rattle.bridge.specs.declared.Bridge.{Bridge}
+use Rattle.bridge.specs.declared.Answered.{Answered}
+use Rattle.bridge.specs.State.{withConfig, coreIn, slotsIn, freeConfig, responseOf, accepted, answered, refused}
+use Rattle.bridge.specs.Completions.{storeSize, sizeOf}
+
+-- 'Slot 8 is the configuration slot'; past it there is no slot
+unfoldable pub stateIn : ℕ → List ℕ → ℕ → ℕ
+stateIn config states k = cond (eqb k 8) config (cond (ltb k 8) (getD states k 0) 0)
+
+abbrev pub stateOf : Bridge → ℕ → ℕ
+stateOf b k = stateIn (b .core .config .state) (b .state) k
+
+-- order: take 8, 14; 'nothing finished there to take, or no such slot'
+unfoldable pub takeNumber : ℕ → ℕ → ℕ
+takeNumber room found = firstOf ((ltb room storeSize, 8) ∷ (not (eqb found 2), 14) ∷ [])
+
+abbrev pub takeRefusal : Bridge → ℕ → ℕ → ℕ
+takeRefusal b room k = takeNumber room (stateOf b k)
+
+-- 'hands back the very part of the store that holds it, empty when refused'; slot 8's 'part is empty'
+unfoldable pub looked : Bridge → List ℕ → ℕ → List ℕ
+looked b store k =
+    cond (eqb (takeRefusal b (length store) k) 0) (cond (ltb k 8) (take (sizeOf b k) (drop (4096 * k) store)) []) []
+
+-- the states and the responses of the slots put anew
+abbrev pub statesIn : List ℕ → List ℕ → Bridge → Bridge
+statesIn st e b = slotsIn st (b .start) (b .size) (b .pieces) (b .fault) e b
+
+-- 'frees the slot'
+unfoldable pub slotFreed : ℕ → Bridge → Bridge
+slotFreed k b =
+    cond (ltb k 8) (statesIn (set (b .state) k 0) (b .cause) b)
+    (coreIn (withConfig freeConfig (b .core)) b)
+
+-- 'number, response and data word'; the word 'is 0 for writes and for memory reads'
+unfoldable pub releaseStep : Bridge → ℕ → ℕ → Answered
+releaseStep b room k =
+    cond (eqb (takeRefusal b room k) 0)
+    (answered (slotFreed k b)
+    (cond (ltb k 8) (accepted (responseOf (getD (b .cause) k 0)) 0 0 0)
+    (accepted (responseOf (b .core .config .response)) 0 0 (b .core .config .word))))
+    (refused (takeRefusal b room k) b)

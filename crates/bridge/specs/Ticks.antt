@@ -1,0 +1,116 @@
+-- Ticks and the link (01, 'Ticks and the link').
+use Prim.Native.Nat.{ℕ, zero, suc, _+_, _-_, _%_, _^_}
+use mathlib.Core.List.{List}
+use mathlib.Core.Bool.{Bool, true, false, cond, _&&_, not}
+use lib.ListN.{length, getD, set, replicate}
+use lib.Dec.{ltb, eqb}
+use Rattle.ecam.specs.declared.Registers.{Registers}
+use Rattle.bridge.specs.declared.ConfigSlot.{ConfigSlot}
+use Rattle.bridge.specs.declared.Core.{Core}
+use Rattle.bridge.specs.declared.Bridge.{Bridge}
+use Rattle.bridge.specs.declared.Answered.{Answered}
+use Rattle.bridge.specs.declared.Cause.the-variants.{Timeout}
+use Rattle.bridge.specs.State.{tagCount, withRegisters, withTicks, withFree, withConfig, coreIn, tagsIn, slotsIn, raise, raisedCore, missingOf, placeOf, ownerOf, isOpen, shut, slverr}
+use Rattle.bridge.specs.Completions.{storeSize, Held, held, zeroed, sizeOf, failed, pieceClosed, configDone, plain}
+
+-- 'A 32-bit tick counter starts again at zero after its last value'
+abbrev pub nextTick : ℕ → ℕ
+nextTick x = (x + 1) % 2 ^ 32
+
+-- 'age (ticks since sending)', on a counter that wraps
+abbrev pub ageOf : ℕ → ℕ → ℕ
+ageOf now then = (now + (2 ^ 32 - then)) % 2 ^ 32
+
+-- ---- a tick
+
+-- 'each request whose age .. is T'
+abbrev pub isOld : Bridge → ℕ → Bool
+isOld b t =
+    isOpen (missingOf b t) (placeOf b t) && eqb (ageOf (b .core .ticks) (getD (b .sent) t 0)) (b .settings .limit)
+
+-- 'At timeout it closes and its tag rests': it is not free. A memory read's piece fails, bit 22; configuration: SLVERR, bit 8
+unfoldable pub timedOut : ℕ → Held → Held
+timedOut t h =
+    cond (ltb (ownerOf (h .bridge) t) 8)
+    (pieceClosed (ownerOf (h .bridge) t)
+    (held (shut t (failed (ownerOf (h .bridge) t) (placeOf (h .bridge) t) Timeout (h .bridge))) (h .store)))
+    (held
+    (shut t
+    (coreIn (raisedCore 8 (withConfig (configDone (h .bridge .core .config) slverr 0) (h .bridge .core))) (h .bridge)))
+    (h .store))
+
+unfoldable pub expire : Held → ℕ → Held
+expire h t = cond (isOld (h .bridge) t) (timedOut t h) h
+
+-- the tags below n
+unfoldable pub expireTo : Held → ℕ → Held
+expireTo h zero = h
+expireTo h (suc n) = expire (expireTo h n) n
+
+-- 'it steps, then closes'
+unfoldable pub ticked : Held → Held
+ticked h =
+    cond (ltb (length (h .store)) storeSize) h
+    (expireTo
+    (held (coreIn (withTicks (nextTick (h .bridge .core .ticks)) (h .bridge .core)) (h .bridge)) (h .store)) tagCount)
+
+-- tick and link refuse only a store that is too short
+abbrev pub storeRefusal : ℕ → ℕ
+storeRefusal room = cond (ltb room storeSize) 8 0
+
+abbrev pub tickStep : Bridge → List ℕ → Answered
+tickStep b store =
+    record { bridge = ticked (held b store) .bridge; answer = plain (storeRefusal (length store)) }
+
+-- ---- the link
+
+abbrev pub withLink : Bool → Registers → Registers
+withLink up r =
+    record {
+      primary = r .primary;
+      secondary = r .secondary;
+      subordinate = r .subordinate;
+      disable = r .disable;
+      decode = r .decode;
+      mask = r .mask;
+      link = up;
+    }
+
+abbrev pub linkIn : Bool → Core → Core
+linkIn up c = withRegisters (withLink up (c .registers)) c
+
+-- a read that is open in slot k is finished as SLVERR with zero data
+unfoldable pub dropSlot : Held → ℕ → Held
+dropSlot h k =
+    cond (eqb (getD (h .bridge .state) k 0) 1)
+    (held
+    (slotsIn (set (h .bridge .state) k 2) (h .bridge .start) (h .bridge .size) (set (h .bridge .pieces) k 0) (h .bridge .fault)
+    (set (h .bridge .cause) k slverr) (h .bridge))
+    (zeroed k (sizeOf (h .bridge) k) (h .store)))
+    h
+
+unfoldable pub dropSlots : Held → ℕ → Held
+dropSlots h zero = h
+dropSlots h (suc n) = dropSlot (dropSlots h n) n
+
+-- and so is an open configuration access
+abbrev pub dropConfig : ConfigSlot → ConfigSlot
+dropConfig c = cond (eqb (c .state) 1) (configDone c slverr 0) c
+
+-- 'Link going down sets bit 0, finishes each open access .. and frees every tag'
+unfoldable pub linkLost : Bridge → Bridge
+linkLost b =
+    coreIn
+    (raisedCore 0 (linkIn false (withFree (2 ^ tagCount - 1) (withConfig (dropConfig (b .core .config)) (b .core)))))
+    (tagsIn (replicate tagCount 0) (b .sent) (b .owner) (b .place) b)
+
+-- 'Going up, or repeating the present link state, changes nothing else'
+unfoldable pub linked : Bool → Held → Held
+linked up h =
+    cond (ltb (length (h .store)) storeSize) h
+    (cond (not up && h .bridge .core .registers .link) (dropSlots (held (linkLost (h .bridge)) (h .store)) 8)
+    (held (coreIn (linkIn up (h .bridge .core)) (h .bridge)) (h .store)))
+
+abbrev pub linkStep : Bool → Bridge → List ℕ → Answered
+linkStep up b store =
+    record { bridge = linked up (held b store) .bridge; answer = plain (storeRefusal (length store)) }
