@@ -1,0 +1,45 @@
+//! `compare PLAYER SEED_FROM SEED_TO [EVENTS]` plays generated seeds, valid and
+//! damaged, on this program and on another player; it fails with the first
+//! difference and keeps the file.
+use second::generate::{damage, traffic, DEFAULT_EVENTS};
+use second::run::{log_of, own_log};
+use second::shrink::difference;
+use std::process::exit;
+
+fn main() {
+    let arguments: Vec<String> = std::env::args().skip(1).collect();
+    let number = |index: usize| arguments.get(index).and_then(|a| a.parse::<u64>().ok());
+    let (Some(player), Some(from), Some(to)) = (arguments.first(), number(1), number(2)) else {
+        eprintln!("usage: compare PLAYER SEED_FROM SEED_TO [EVENTS]");
+        exit(2);
+    };
+    let events = number(3).map_or(DEFAULT_EVENTS, |n| n as usize);
+    let mut lines = 0;
+    for seed in from..=to {
+        let bytes = traffic(seed, events).encode();
+        lines += compare(player, seed, "", &bytes);
+        lines += compare(player, seed, "-damaged", &damage(&bytes, seed));
+    }
+    println!("{} seeds, {lines} lines, 0 differences", to - from + 1);
+}
+
+/// The number of lines in the log.
+fn compare(player: &str, seed: u64, kind: &str, bytes: &[u8]) -> usize {
+    let own = own_log(bytes);
+    let other = log_of(player, bytes).unwrap_or_else(|error| {
+        eprintln!("{player}: {error}");
+        exit(2)
+    });
+    let Some(found) = difference(&own, &other) else {
+        return own.lines().count();
+    };
+    let file = format!("seed-{seed}{kind}.traffic");
+    println!("seed {seed}{kind} differs at line {}", found.line + 1);
+    println!("  here:  {}", found.one);
+    println!("  there: {}", found.other);
+    match std::fs::write(&file, bytes) {
+        Ok(()) => println!("kept as {file}"),
+        Err(error) => println!("{file}: {error}"),
+    }
+    exit(1);
+}

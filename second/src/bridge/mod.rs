@@ -1,0 +1,199 @@
+//! The bridge: its state, as plain lists, and what it shows.
+
+mod complete;
+mod config;
+mod memory;
+mod take;
+mod time;
+
+pub use config::Access;
+
+use crate::settings::{PcieAddress, Settings};
+
+/// "32 free tags, 8 free read slots and one free configuration slot"
+pub const TAGS: u32 = 32;
+pub const READ_SLOTS: u32 = 8;
+pub const CONFIG_SLOT: u32 = 8;
+/// A read slot's bytes "lie from 4,096k in a lent store of at least 32,768".
+pub const SLOT_BYTES: usize = 4096;
+pub const STORE_BYTES: usize = 32_768;
+/// "The lent sending area must hold 4,608 bytes."
+pub const AREA_BYTES: usize = 4608;
+
+/// The bits of word 138 that exist: 0, 8, 20 to 25.
+pub const DECODE_BITS: u32 = 1 | 1 << 8 | 0x3F << 20;
+
+pub const BIT_LINK_DOWN: u32 = 0;
+pub const BIT_CONFIG_TIMEOUT: u32 = 8;
+pub const BIT_UR: u32 = 20;
+pub const BIT_UNEXPECTED: u32 = 21;
+pub const BIT_TIMEOUT: u32 = 22;
+pub const BIT_POISON: u32 = 23;
+pub const BIT_CA: u32 = 24;
+pub const BIT_BURST: u32 = 25;
+
+/// Whose request a piece is.
+#[derive(Clone, Copy, Debug, PartialEq, Eq)]
+pub enum Owner {
+    /// A memory read, by its slot.
+    Read(u32),
+    ConfigRead,
+    ConfigWrite,
+}
+
+/// An open request.
+#[derive(Clone, Debug, PartialEq, Eq)]
+pub struct Piece {
+    pub tag: u32,
+    pub owner: Owner,
+    /// The tick counter when it was sent.
+    pub born: u32,
+    /// Its rank among the pieces of its read, in address order.
+    pub rank: u32,
+    /// The address of the next missing byte.
+    pub next: PcieAddress,
+    /// Where that byte goes in its slot.
+    pub place: u32,
+    pub missing: u32,
+}
+
+/// Why a piece failed.
+#[derive(Clone, Copy, Debug, PartialEq, Eq)]
+pub enum Cause {
+    Unsupported,
+    Timeout,
+    Poison,
+    Abort,
+}
+
+/// A memory read that holds a slot.
+#[derive(Clone, Debug, PartialEq, Eq)]
+pub struct Read {
+    pub slot: u32,
+    pub length: u32,
+    /// The first cause of each failed piece, with the piece's rank.
+    pub failures: Vec<(u32, Cause)>,
+    pub finished: Option<crate::answer::Response>,
+}
+
+/// What the configuration slot holds.
+#[derive(Clone, Copy, Debug, PartialEq, Eq)]
+pub enum ConfigSlot {
+    Free,
+    OpenRead,
+    OpenWrite,
+    Finished(crate::answer::Response, u32),
+}
+
+#[derive(Clone, Debug, PartialEq, Eq)]
+pub struct Bridge {
+    settings: Settings,
+    primary: u32,
+    secondary: u32,
+    subordinate: u32,
+    line_off: bool,
+    decode: u32,
+    mask: u32,
+    link_up: bool,
+    now: u32,
+    pieces: Vec<Piece>,
+    reads: Vec<Read>,
+    config_slot: ConfigSlot,
+    resting: Vec<u32>,
+}
+
+impl Bridge {
+    /// A fresh bridge and 0, or refusal 1 with the fresh bridge of the worked examples
+    /// in its place.
+    pub fn new(settings: &Settings) -> (Bridge, u32) {
+        if settings.lawful() {
+            (Bridge::fresh(settings.clone()), 0)
+        } else {
+            (Bridge::fresh(Settings::example()), 1)
+        }
+    }
+
+    /// "A fresh bridge has its link down, all registers and the tick counter
+    /// zero".
+    fn fresh(settings: Settings) -> Bridge {
+        Bridge {
+            settings,
+            primary: 0,
+            secondary: 0,
+            subordinate: 0,
+            line_off: false,
+            decode: 0,
+            mask: 0,
+            link_up: false,
+            now: 0,
+            pieces: Vec::new(),
+            reads: Vec::new(),
+            config_slot: ConfigSlot::Free,
+            resting: Vec::new(),
+        }
+    }
+
+    /// For traffic that starts near the counter's last value.
+    pub fn set_counter(&mut self, value: u32) {
+        self.now = value;
+    }
+
+    /// Words 018, 134, 138, 13C and 144.
+    pub fn registers(&self) -> [u32; 5] {
+        [0x018, 0x134, 0x138, 0x13C, 0x144].map(|offset| self.local_word(offset))
+    }
+
+    /// "The line is high when decode and mask share a bit and bit 8 of 134 is
+    /// 0."
+    pub fn line(&self) -> bool {
+        self.decode & self.mask != 0 && !self.line_off
+    }
+
+    pub fn settings(&self) -> &Settings {
+        &self.settings
+    }
+
+    pub fn counter(&self) -> u32 {
+        self.now
+    }
+
+    pub fn link_is_up(&self) -> bool {
+        self.link_up
+    }
+
+    pub fn pieces(&self) -> &[Piece] {
+        &self.pieces
+    }
+
+    pub fn reads(&self) -> &[Read] {
+        &self.reads
+    }
+
+    pub fn config_slot(&self) -> ConfigSlot {
+        self.config_slot
+    }
+
+    pub fn resting(&self) -> &[u32] {
+        &self.resting
+    }
+
+    fn set_bit(&mut self, bit: u32) {
+        self.decode |= 1 << bit;
+    }
+
+    /// A tag is free when no open piece has it and it does not rest.
+    fn tag_is_free(&self, tag: u32) -> bool {
+        !self.resting.contains(&tag) && self.pieces.iter().all(|p| p.tag != tag)
+    }
+
+    /// The free tags, lowest first.
+    pub fn free_tags(&self) -> Vec<u32> {
+        (0..TAGS).filter(|tag| self.tag_is_free(*tag)).collect()
+    }
+
+    /// The free read slots, lowest first.
+    pub fn free_slots(&self) -> Vec<u32> {
+        let used = |slot: u32| self.reads.iter().any(|r| r.slot == slot);
+        (0..READ_SLOTS).filter(|slot| !used(*slot)).collect()
+    }
+}

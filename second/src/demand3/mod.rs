@@ -1,0 +1,92 @@
+//! Demand 3 by trial: an honest far side, and the three claims checked on many
+//! seeds (bytes, deadline with its OKAY half, alike).
+
+mod alike;
+mod claims;
+mod honest;
+mod lists;
+
+pub use alike::alike;
+pub use honest::honest;
+
+use crate::traffic::Event;
+
+/// What the trials have seen, so that an empty success shows.
+#[derive(Clone, Copy, Debug, Default)]
+pub struct Figures {
+    pub events: u64,
+    pub reads: u64,
+    pub configs: u64,
+    pub okay_reads: u64,
+    pub okay_bytes: u64,
+    pub failed_reads: u64,
+    /// Accesses whose completions were all good and in time.
+    pub well: u64,
+    pub timeouts: u64,
+    pub lost: u64,
+    pub late: u64,
+    pub unexpected: u64,
+    pub drops: u64,
+    pub reused_tags: u64,
+    pub alike_events: u64,
+    pub alike_reads: u64,
+}
+
+impl Figures {
+    pub fn add(&mut self, other: &Figures) {
+        self.events += other.events;
+        self.reads += other.reads;
+        self.configs += other.configs;
+        self.okay_reads += other.okay_reads;
+        self.okay_bytes += other.okay_bytes;
+        self.failed_reads += other.failed_reads;
+        self.well += other.well;
+        self.timeouts += other.timeouts;
+        self.lost += other.lost;
+        self.late += other.late;
+        self.unexpected += other.unexpected;
+        self.drops += other.drops;
+        self.reused_tags += other.reused_tags;
+        self.alike_events += other.alike_events;
+        self.alike_reads += other.alike_reads;
+    }
+
+    /// Every figure with its name.
+    pub fn list(&self) -> [(&'static str, u64); 15] {
+        [
+            ("events with an honest far side", self.events),
+            ("accepted memory reads", self.reads),
+            ("accepted routed configuration accesses", self.configs),
+            ("reads answered OKAY, bytes compared", self.okay_reads),
+            ("bytes compared", self.okay_bytes),
+            ("reads answered otherwise", self.failed_reads),
+            ("accesses with good completions for all bytes", self.well),
+            ("requests timed out", self.timeouts),
+            ("completions lost", self.lost),
+            ("completions after their request timed out", self.late),
+            ("completions not expected", self.unexpected),
+            ("link drops", self.drops),
+            ("tags used again", self.reused_tags),
+            ("events compared for alike", self.alike_events),
+            ("reads accepted among them", self.alike_reads),
+        ]
+    }
+}
+
+/// A claim that did not hold.
+#[derive(Debug)]
+pub struct Counterexample {
+    pub claim: String,
+    pub setting: String,
+    pub events: Vec<Event>,
+}
+
+impl Counterexample {
+    pub fn print(&self, seed: u64) {
+        println!("seed {seed}: {}", self.claim);
+        println!("{}", self.setting);
+        for (index, event) in self.events.iter().enumerate() {
+            println!("{index} {event:x?}");
+        }
+    }
+}

@@ -1,0 +1,168 @@
+//! The traffic format: round trips, faults, and a log written out by hand.
+
+use second::generate::{damage, traffic};
+use second::run::own_log;
+use second::shrink::{difference, Shrinker};
+use second::traffic::{adler, Event, Traffic, HEADER_BYTES};
+
+/// The example bridge with T = 2, store 32,768, first tick 4,294,967,295.
+fn header() -> Vec<u8> {
+    let mut bytes = b"APBT".to_vec();
+    let words = |bytes: &mut Vec<u8>, list: &[u32]| {
+        list.iter().for_each(|w| bytes.extend(w.to_be_bytes()));
+    };
+    words(&mut bytes, &[1, 1]);
+    words(&mut bytes, &[0, 0x1234_0000, 0, 0x1_0000, 0, 0x5671_0000]);
+    words(&mut bytes, &[0; 30]);
+    words(&mut bytes, &[8, 128, 128, 2, 0, u32::MAX, 32_768]);
+    assert_eq!(bytes.len(), HEADER_BYTES);
+    bytes
+}
+
+fn hex(text: &str) -> Vec<u8> {
+    let digits: Vec<char> = text.chars().filter(|c| !c.is_whitespace()).collect();
+    let byte = |pair: &[char]| u8::from_str_radix(&pair.iter().collect::<String>(), 16).unwrap();
+    digits.chunks(2).map(byte).collect()
+}
+
+/// The example of docs/TRAFFIC.md.
+fn example() -> Vec<u8> {
+    let mut bytes = header();
+    bytes.extend(hex("06 00008000 01")); // link up
+    bytes.extend(hex(
+        "01 00001200 0000000012340abc 00000002 00000001 00000001",
+    ));
+    bytes.extend(hex(
+        "04 00008000 00000010 4a000001 00000004 0000003c 11223344",
+    ));
+    bytes.extend(hex("07 00008000 00000000")); // look
+    bytes.extend(hex("08 00008000 00000000")); // release
+    bytes.extend(hex("05 00008000 00000003")); // three ticks
+    bytes.extend(hex("0a 0000000c 04000001 0000000f 01000000")); // request reader
+    bytes.extend(hex("ff 00000007"));
+    bytes
+}
+
+const EXAMPLE_LOG: &str = include_str!("example.log");
+
+#[test]
+fn example_log() {
+    assert_eq!(own_log(&example()), EXAMPLE_LOG);
+}
+
+#[test]
+fn checksum() {
+    assert_eq!(adler(b""), 1);
+    assert_eq!(adler(b"123456789"), 0x091E_01DE);
+    let plain = |bytes: &[u8]| {
+        let (mut a, mut b) = (1, 0);
+        for byte in bytes {
+            a = (a + u32::from(*byte)) % 65_521;
+            b = (b + a) % 65_521;
+        }
+        b << 16 | a
+    };
+    let most = vec![255; 40_960];
+    assert_eq!(adler(&most), plain(&most));
+    for length in [1, 63, 64, 65, 127, 4608, 32_768, 40_959] {
+        let bytes: Vec<u8> = (0..length).map(|i: u32| (i * 7 % 253) as u8).collect();
+        assert_eq!(adler(&bytes), plain(&bytes));
+    }
+}
+
+#[test]
+fn files_round_trip() {
+    for seed in 0..40 {
+        let made = traffic(seed, 200);
+        assert_eq!(Traffic::decode(&made.encode()), Ok(made));
+    }
+}
+
+fn last_line(bytes: &[u8]) -> String {
+    own_log(bytes).lines().last().unwrap_or("").to_string()
+}
+
+#[test]
+fn every_cut_is_told_with_its_place() {
+    let bytes = example();
+    let starts = [184, 190, 215, 240, 249, 258, 267, 284];
+    for length in 0..bytes.len() {
+        let expected = match starts.iter().rposition(|s| length >= *s) {
+            None => "cut header at 0".to_string(),
+            // The end record's kind byte is there.
+            Some(7) if length > 284 => "cut end at 284".to_string(),
+            Some(index) => format!("cut event {index} at {}", starts[index]),
+        };
+        assert_eq!(last_line(&bytes[..length]), expected, "length {length}");
+    }
+}
+
+#[test]
+fn damage_is_told_with_its_place() {
+    let cases: [(usize, u8, &str); 14] = [
+        (0, 0, "damaged header at 0"),
+        (7, 2, "damaged header at 0"),
+        (181, 1, "damaged header at 0"),
+        (184, 0, "damaged event 0 at 184"),
+        (184, 13, "damaged event 0 at 184"),
+        (184, 254, "damaged event 0 at 184"),
+        (188, 1, "damaged event 0 at 184"), // a store longer than the file's
+        (189, 2, "damaged event 0 at 184"), // a flag
+        (192, 1, "damaged event 1 at 190"), // an area above 8,192
+        (221, 1, "damaged event 2 at 215"), // 65,552 bytes
+        (265, 0x10, "damaged event 5 at 258"), // 4,099 ticks is no damage
+        (264, 2, "damaged event 5 at 258"), // 131,075 ticks
+        (266, 0, "damaged event 5 at 258"), // no tick
+        (288, 8, "damaged end at 284"),
+    ];
+    for (at, byte, expected) in cases {
+        let mut bytes = example();
+        bytes[at] = byte;
+        match at {
+            265 => assert_eq!(last_line(&bytes), "end 7"),
+            _ => assert_eq!(last_line(&bytes), expected, "byte {at}"),
+        }
+    }
+    let longer = [&example()[..], &[0]].concat();
+    assert_eq!(last_line(&longer), "damaged end at 284");
+}
+
+#[test]
+fn settings_are_never_a_fault() {
+    let mut bytes = example();
+    bytes[11] = 9; // the count
+    let log = own_log(&bytes);
+    assert!(log.starts_with("new 1 regs"));
+    // Played on the example bridge, whose T is 65,535.
+    assert!(log.ends_with("end 7\n"));
+}
+
+#[test]
+fn damaged_files_never_stop_the_player_itself() {
+    for seed in 0..300 {
+        let bytes = damage(&traffic(seed, 60).encode(), seed);
+        assert!(!own_log(&bytes).is_empty());
+    }
+}
+
+#[test]
+fn shrinking_keeps_the_difference_and_little_else() {
+    let made = traffic(3, 300);
+    // A player that gets every release of slot 2 wrong.
+    let wrong = |t: &Traffic| {
+        let release = |e: &Event| matches!(e, Event::Release { slot: 2, .. });
+        t.events.iter().any(release)
+    };
+    assert!(wrong(&made));
+    let small = Shrinker::new(wrong, 3000).shrink(&made);
+    assert_eq!(small.events.len(), 1);
+}
+
+#[test]
+fn first_difference() {
+    assert_eq!(difference("a\nb\n", "a\nb\n"), None);
+    let found = difference("a\nb\nc\n", "a\nx\nc\n").expect("a difference");
+    assert_eq!((found.line, found.event()), (1, Some(0)));
+    let cut = difference("a\nb\n", "a\n").expect("a difference");
+    assert_eq!(cut.one, "b");
+}
