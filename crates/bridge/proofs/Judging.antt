@@ -15,12 +15,12 @@ use Rattle.tlp.specs.declared.completion.CompletionRead.{CompletionRead}
 use Rattle.tlp.specs.declared.completion.CompletionRead.the-variants.{Header, Malformed}
 use Rattle.tlp.specs.Completion.{validPayload, validCompletion, completionIn, completionReserved, acceptCompletion, readCompletion}
 use Rattle.tlp.proofs.Ranges.{completion-ranges}
-use Rattle.bridge.specs.declared.Verdict.{Verdict}
-use Rattle.bridge.specs.declared.Verdict.the-variants.{Unexpected, Good, Poisoned, Failed}
+use Rattle.verdict.specs.declared.Verdict.{Verdict}
+use Rattle.verdict.specs.declared.Verdict.the-variants.{Unexpected, Good, Poisoned, Failed}
 use Rattle.bridge.specs.State.{isOpen}
 use Rattle.bridge.specs.Verdict.{causeOf, useful, inOrder, received, memoryVerdict}
 use Rattle.bridge.specs.Completions.{withPayload, completionOf}
-use Rattle.bridge.specs.CompletionLaws.{Within, Fits, VerdictFits, Whole, ReadWhole}
+use Rattle.bridge.specs.Expected.{Within, Fits, VerdictFits, Whole, ReadWhole}
 
 pub never : {A : Type 0} → _≡_ {A = Bool} true false → A
 never e = let z : _≡_ {A = ℕ} 0 1 = ap (λ (t : Bool). cond t 0 1) e in absurd (omega arith)
@@ -92,11 +92,6 @@ whole-by s Malformed f = tt
 pub read-whole : ReadWhole
 unfolding completionOf
 read-whole s = whole-by s (readCompletion (take 12 s)) (read-valid (take 12 s))
-
--- a reader that wants 12 bytes finds no header in fewer
-pub read-short : (s : List ℕ) → length s < 12 → readCompletion s ≡ Malformed
-unfolding readCompletion completionReserved
-read-short s h = rw (ne-eqb (length s) 12 (λ e. omega arith))
 
 -- the missing bytes of an open tag lie in its slot
 pub open-room : (missing place : ℕ) → isOpen missing place ≡ true → place + missing ≤ 4096

@@ -1,25 +1,6 @@
 -- Laws that belong to no one function.
-pub mod Examples
+pub mod Changes
 pub mod Configs
-pub mod FreshLaws
-pub mod ConfigLaws
-pub mod TakeLaws
-pub mod Packets
-pub mod Slots
 pub mod Reading
 pub mod Refusals
-pub mod Writing
 pub mod Judging
-pub mod Behind
-pub mod Kept
-pub mod Sends
-pub mod Keeping
-pub mod Finished
-pub mod Goodness
-pub mod Counting
-pub mod TickLaws
-pub mod Stored
-pub mod Coming
-pub mod CompletionExamples
-pub mod Asked
-pub mod MemoryExamples

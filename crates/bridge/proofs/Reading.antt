@@ -1,29 +1,22 @@
 -- One turn of a read: a piece more is opened, and its header sent.
 use mathlib.Core.Path.{_≡_, refl, sym, ap, _∙_}
-use mathlib.Core.Bool.{Bool, true, false}
-use mathlib.Core.List.{List, [], _∷_, _++_}
-use Prim.Native.Nat.{ℕ, suc, _+_, _≤_, _<_}
+use mathlib.Core.Bool.{false}
+use mathlib.Core.List.{List, []}
+use Prim.Native.Nat.{ℕ, suc, _+_, _<_}
 use native.Mathlib.Numerals.{add-one}
-use native.Mathlib.Omega.{arith}
 use lib.ListN.{length, getD, length-append}
 use lib.Seq.{paste}
 use Rattle.bits.specs.Bits.{clearBit}
 use Rattle.tags.specs.Tags.{lowest, available}
 use Rattle.tags.proofs.Tags.{lowest-is, take-one-less}
-use Rattle.address.specs.declared.Windows.{Windows}
 use Rattle.address.specs.Windows.{axi, translated}
 use Rattle.burst.specs.declared.Burst.{Burst}
 use Rattle.burst.specs.declared.Piece.{Piece}
 use Rattle.bridge.specs.declared.Bridge.{Bridge}
 use Rattle.bridge.specs.State.{tagCount, opened}
-use Rattle.bridge.specs.Memory.{filled, windowFor, indexOf, pcieOf, pieceOf, placeIn, memoryRequest, pieceRequest, packet, readTo, readSent}
-use Rattle.bridge.proofs.Packets.{fill-more}
-
--- the address behind the burst's window
-pub behind : (w : Windows) (q : Burst) (base target x : ℕ) → base ≡ getD (w .base) (indexOf (windowFor w q)) 0 → target ≡ getD (w .target) (indexOf (windowFor w q)) 0
-    → translated base target (axi x) .0 ≡ pcieOf w q x
-unfolding pcieOf
-behind w q base target x e f = rw (e, f)
+use Rattle.bridge.specs.Memory.{filled, windowFor, indexOf, pieceOf, placeIn, memoryRequest, pieceRequest, packet, readTo, readSent}
+use Rattle.packets.proofs.Packets.{fill-more}
+use Rattle.packets.proofs.Writing.{behind}
 
 -- a tag is free while one is available, and then one less is
 pub lowest-below : (f : ℕ) → 0 < available tagCount f → lowest tagCount f < tagCount

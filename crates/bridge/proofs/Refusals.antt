@@ -12,7 +12,7 @@ use Rattle.address.specs.Windows.{foundNumber}
 use Rattle.burst.specs.declared.Burst.{Burst}
 use Rattle.burst.specs.Bursts.{burstNumber, lengthOf, dataNumber}
 use Rattle.bridge.specs.declared.Bridge.{Bridge}
-use Rattle.bridge.specs.declared.Response.the-variants.{Nothing, Okay}
+use Rattle.parts.specs.declared.Response.the-variants.{Nothing, Okay}
 use Rattle.bridge.specs.State.{tagCount, freeSlot, accepted, answered, refused}
 use Rattle.bridge.specs.Memory.{filled, windowFor, piecesOf, readRefusal, claimed, readTo, readSent, readStep, readArea, writeRefusal, writeBytes, writeStep, writeArea}
 

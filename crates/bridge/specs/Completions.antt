@@ -1,31 +1,31 @@
--- Completions (01, 'Completions'): the bridge and the store that is lent to it, together.
+-- Completions (01, 'Completions'): the bridge and the store that is lent to it, together. The configuration slot's answer
+-- is defined in `parts`, what concerns bytes alone in `tables`, and both are passed on.
 use Prim.Native.Nat.{ℕ, _+_, _-_, _*_, _%_, min}
-use mathlib.Core.List.{List, [], _∷_, _++_}
-use mathlib.Core.Bool.{Bool, true, false, cond, not, _&&_}
-use lib.ListN.{length, getD, set, take, drop, replicate}
+use mathlib.Core.List.{List}
+use mathlib.Core.Bool.{cond, _&&_}
+use lib.ListN.{length, getD, set, drop}
 use lib.Seq.{paste}
 use lib.Dec.{ltb, leb, eqb}
-use Rattle.common.specs.Tests.{firstOf}
 use Rattle.tlp.specs.declared.completion.Completion.{Completion}
 use Rattle.tlp.specs.declared.completion.CompletionRead.{CompletionRead}
 use Rattle.tlp.specs.declared.completion.CompletionRead.the-variants.{Header, Malformed}
-use Rattle.tlp.specs.Completion.{readCompletion}
-use Rattle.ecam.specs.Request.{dataWord}
-use Rattle.bridge.specs.declared.ConfigSlot.{ConfigSlot}
 use Rattle.bridge.specs.declared.Bridge.{Bridge}
-use Rattle.bridge.specs.declared.Answer.{Answer}
+use Rattle.parts.specs.declared.Answer.{Answer}
 use Rattle.bridge.specs.declared.Answered.{Answered}
-use Rattle.bridge.specs.declared.Response.the-variants as response
-use Rattle.bridge.specs.declared.Cause.{Cause}
-use Rattle.bridge.specs.declared.Cause.the-variants.{UnsupportedRequest, RequestRetry, CompleterAbort, Poison, Timeout}
-use Rattle.bridge.specs.declared.Verdict.{Verdict}
-use Rattle.bridge.specs.declared.Verdict.the-variants.{Unexpected, Good, Poisoned, Failed}
-use Rattle.bridge.specs.State.{tagCount, withConfig, coreIn, slotsIn, raise, missingOf, placeOf, ownerOf, isOpen, counted, shut, freed, okay, slverr, accepted, refusal, refusalChange}
+use Rattle.parts.specs.declared.Response.the-variants as response
+use Rattle.verdict.specs.declared.Cause.{Cause}
+use Rattle.verdict.specs.declared.Cause.the-variants.{Poison}
+use Rattle.verdict.specs.declared.Verdict.{Verdict}
+use Rattle.verdict.specs.declared.Verdict.the-variants.{Unexpected, Good, Poisoned, Failed}
+use Rattle.bridge.specs.State.{withConfig, coreIn, slotsIn, raise, missingOf, placeOf, ownerOf, isOpen, counted, shut, freed, okay, refusal, refusalChange}
+pub use Rattle.verdict.specs.Verdict.{isUnexpected}
 use Rattle.bridge.specs.Verdict.{memoryVerdict, configVerdict, causeResponse, causeBit}
-
--- 'a lent store of at least 32,768 bytes'; slot k's bytes 'lie from 4,096k'
-abbrev pub storeSize : ℕ
-storeSize = 32768
+pub use Rattle.parts.specs.Answers.{plain}
+pub use Rattle.parts.specs.Access.{configDone}
+unfoldable pub use Rattle.parts.specs.Access.{configAnswer}
+pub use Rattle.parts.specs.Numbers.{storeSize}
+pub use Rattle.tables.specs.Stores.{zeroed, usefulBytes, withPayload}
+unfoldable pub use Rattle.tables.specs.Stores.{completionOf}
 
 -- the bridge and its store
 pub record Held : Type 0 where
@@ -36,10 +36,6 @@ abbrev pub held : Bridge → List ℕ → Held
 held b s = record { bridge = b; store = s }
 
 -- ---- slots
-
--- the first n bytes of slot k are zero
-abbrev pub zeroed : ℕ → ℕ → List ℕ → List ℕ
-zeroed k n store = paste store (4096 * k) (replicate n 0) n
 
 -- how many bytes slot k's burst has; a slot has 4,096
 abbrev pub sizeOf : Bridge → ℕ → ℕ
@@ -83,10 +79,6 @@ advanced t k n h =
 
 -- ---- a completion for a memory read in slot k
 
--- the useful bytes stand in the payload from lower mod 4 on
-abbrev pub usefulBytes : ℕ → ℕ → List ℕ → List ℕ
-usefulBytes skip n payload = take n (drop skip payload)
-
 unfoldable pub memoryCompleted : Held → ℕ → ℕ → ℕ → List ℕ → Verdict → Held
 memoryCompleted h t k skip payload Unexpected = h
 memoryCompleted h t k skip payload (Good n) =
@@ -98,21 +90,6 @@ memoryCompleted h t k skip payload (Failed cause) =
     closed t k (held (failed k (placeOf (h .bridge) t) cause (h .bridge)) (h .store))
 
 -- ---- a completion for the configuration access
-
--- its finished slot
-abbrev pub configDone : ConfigSlot → ℕ → ℕ → ConfigSlot
-configDone c code word = record { state = 2; write = c .write; response = code; word = word }
-
--- 'UR read gives OKAY and all ones; UR write SLVERR. CRS, CA, poison, timeout: SLVERR, data 0'
-unfoldable pub configAnswer : ConfigSlot → List ℕ → Verdict → ConfigSlot
-configAnswer c payload Unexpected = c
-configAnswer c payload (Good n) = configDone c okay (cond (c .write) 0 (dataWord payload))
-configAnswer c payload (Poisoned n) = configDone c slverr 0
-configAnswer c payload (Failed UnsupportedRequest) = cond (c .write) (configDone c slverr 0) (configDone c okay 0xFFFFFFFF)
-configAnswer c payload (Failed RequestRetry) = configDone c slverr 0
-configAnswer c payload (Failed CompleterAbort) = configDone c slverr 0
-configAnswer c payload (Failed Poison) = configDone c slverr 0
-configAnswer c payload (Failed Timeout) = configDone c slverr 0
 
 -- 'closed by its first expected completion'
 unfoldable pub configCompleted : Bridge → ℕ → List ℕ → Verdict → Bridge
@@ -132,20 +109,6 @@ verdictOf b c =
     (cond (ltb (ownerOf b (c .tag)) 8) (memoryVerdict c (missingOf b (c .tag)) (nextAddress b (c .tag)))
     (configVerdict c (b .core .config .write)))
     Unexpected
-
--- 'Payload is 4 x length bytes .. Else malformed'
-abbrev pub withPayload : List ℕ → CompletionRead → CompletionRead
-withPayload s (Header c) = cond (eqb (length s) (12 + 4 * c .length)) (Header c) Malformed
-withPayload s Malformed = Malformed
-
-unfoldable pub completionOf : List ℕ → CompletionRead
-completionOf s = withPayload s (readCompletion (take 12 s))
-
-abbrev pub isUnexpected : Verdict → Bool
-isUnexpected Unexpected = true
-isUnexpected (Good n) = false
-isUnexpected (Poisoned n) = false
-isUnexpected (Failed cause) = false
 
 abbrev pub readRefused : Bridge → CompletionRead → ℕ
 readRefused b (Header c) = cond (isUnexpected (verdictOf b c)) 13 0
@@ -170,10 +133,6 @@ unfoldable pub completed : Held → List ℕ → Held
 completed h s =
     cond (eqb (completeRefusal (h .bridge) (length (h .store)) s) 0) (completedBy h s (completionOf s))
     (held (coreIn (refusalChange (completeRefusal (h .bridge) (length (h .store)) s) (h .bridge .core)) (h .bridge)) (h .store))
-
--- what an event that sends nothing answers
-abbrev pub plain : ℕ → Answer
-plain number = cond (eqb number 0) (accepted response.Nothing 0 0 0) (refusal number)
 
 abbrev pub completeStep : Bridge → List ℕ → List ℕ → Answered
 completeStep b store s =

@@ -1,7 +1,7 @@
 -- A bridge with the parts that an event is lent put in.
 use Prim.Native.Nat.{ℕ}
 use mathlib.Core.List.{List}
-use Rattle.bridge.specs.declared.Core.{Core}
+use Rattle.parts.specs.declared.Core.{Core}
 use Rattle.bridge.specs.declared.Bridge.{Bridge}
 use Rattle.bridge.specs.State.{coreIn, tagsIn, slotsIn}
 

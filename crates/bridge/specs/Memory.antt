@@ -1,97 +1,33 @@
--- Memory reads and writes (01, 'Memory bursts').
+-- Memory reads and writes (01, 'Memory bursts'). What is sent for a burst is defined in `packets`, what
+-- refuses one in `tables`, and passed on.
 use Prim.Native.Nat.{ℕ, zero, suc, _+_, _-_, _%_}
 use mathlib.Core.List.{List, [], _∷_, _++_}
-use mathlib.Core.Bool.{Bool, true, false, cond, not, _&&_}
-use lib.ListN.{length, getD, set, take, drop}
+use mathlib.Core.Bool.{false, cond, not, _&&_}
+use lib.ListN.{length, set}
 use lib.Dec.{ltb, leb, eqb}
 use Rattle.common.specs.Tests.{firstOf}
 use Rattle.tags.specs.Tags.{lowest, available}
 use Rattle.tlp.specs.declared.request.Target.the-variants.{Memory}
 use Rattle.tlp.specs.declared.request.Request.{Request}
-use Rattle.tlp.specs.Request.{validRequest, requestBytes}
-use Rattle.address.specs.declared.Windows.{Windows}
-use Rattle.address.specs.declared.Settings.{Settings}
-use Rattle.address.specs.declared.Found.{Found}
 use Rattle.address.specs.declared.Found.the-variants as found
-use Rattle.address.specs.Windows.{axi, windowOf, foundNumber, translatedAt}
+use Rattle.address.specs.Windows.{foundNumber}
 use Rattle.burst.specs.declared.Burst.{Burst}
-use Rattle.burst.specs.declared.Piece.{Piece}
 use Rattle.burst.specs.Bursts.{burstNumber, lengthOf, dataNumber}
-use Rattle.burst.specs.Pieces.{pieceCount, pieceAt}
-use Rattle.burst.specs.Words.{wordAddress, wordCount, firstEnables, lastEnables, wordsOf}
 use Rattle.bridge.specs.declared.Bridge.{Bridge}
 use Rattle.bridge.specs.declared.Answered.{Answered}
-use Rattle.bridge.specs.declared.Response.the-variants.{Nothing, Okay}
+use Rattle.parts.specs.declared.Response.the-variants.{Nothing, Okay}
 use Rattle.bridge.specs.State.{tagCount, slotsIn, opened, freeSlot, accepted, answered, refused}
-
--- 'The lent sending area must hold 4,608 bytes'
-abbrev pub areaSize : ℕ
-areaSize = 4608
-
--- the area after a call: 'An accepted call writes a prefix .. the rest stays'
-abbrev pub filled : List ℕ → List ℕ → List ℕ
-filled sent area = sent ++ drop (length sent) area
-
--- ---- the window
-
-abbrev pub windowFor : Windows → Burst → Found
-windowFor w q = windowOf (w .count) (w .base) (w .size) (q .start)
-
-abbrev pub indexOf : Found → ℕ
-indexOf (found.At i) = i
-indexOf found.Nothing = 0
-
--- the PCIe address of an AXI address, through the window that holds the burst's first byte
-unfoldable pub pcieOf : Windows → Burst → ℕ → ℕ
-pcieOf w q x = translatedAt w (indexOf (windowFor w q)) (axi x) .0
-
--- ---- the pieces
-
-abbrev pub piecesOf : ℕ → Burst → ℕ
-piecesOf limit q = pieceCount limit (q .start .0) (lengthOf q)
-
-abbrev pub pieceOf : ℕ → Burst → ℕ → Piece
-pieceOf limit q k = pieceAt limit (q .start .0) (lengthOf q) k
-
--- where a piece's bytes lie in the burst
-abbrev pub placeIn : Burst → Piece → ℕ
-placeIn q p = p .first - q .start .0
-
--- the request for n bytes from PCIe address a on
-unfoldable pub memoryRequest : Bool → ℕ → ℕ → ℕ → ℕ → Request
-memoryRequest write requester tag a n =
-    record {
-      write = write;
-      target = Memory (wordAddress a);
-      length = wordCount a n;
-      requester = requester;
-      tag = tag;
-      last = lastEnables a n;
-      first = firstEnables a n;
-    }
-
--- the request of a burst's piece
-abbrev pub pieceRequest : Bool → Settings → Burst → ℕ → Piece → Request
-pieceRequest write s q tag p = memoryRequest write (s .requester) tag (pcieOf (s .windows) q (p .first)) (p .length)
-
--- a packet: header and payload. A request outside the header's ranges has none: accepted settings make no such request
-unfoldable pub packet : Request → List ℕ → List ℕ
-packet r payload = cond (validRequest r) (requestBytes r ++ payload) []
+pub use Rattle.parts.specs.Access.{areaSize}
+pub use Rattle.packets.specs.Packets.{filled, windowFor, indexOf, piecesOf, pieceOf, placeIn, pieceRequest}
+unfoldable pub use Rattle.packets.specs.Packets.{pcieOf, memoryRequest, packet}
+pub use Rattle.packets.specs.Writes.{writeBytes}
+unfoldable pub use Rattle.packets.specs.Writes.{writePacket, writeSent}
+pub use Rattle.tables.specs.Refusals.{readNumber, writeNumber}
 
 -- ---- reads
 
--- order: memory 8, 3, 2, 15, 4, 5, 6, 7
 unfoldable pub readRefusal : Bridge → Burst → ℕ → ℕ
-readRefusal b q room =
-    firstOf
-    ((ltb room areaSize, 8)
-    ∷ (not (eqb (burstNumber q) 0), 3)
-    ∷ (not (eqb (foundNumber (windowFor (b .settings .windows) q)) 0), 2)
-    ∷ (not (b .core .registers .link), 4)
-    ∷ (eqb (b .core .config .state) 1 && not (b .core .config .write), 5)
-    ∷ (leb 8 (freeSlot b), 6)
-    ∷ (ltb (available tagCount (b .core .free)) (piecesOf (b .settings .reads) q), 7)
-    ∷ [])
+readRefusal b q room = readNumber (b .settings) (b .core) (freeSlot b) q room
 
 -- slot k waits for a burst
 unfoldable pub claimed : ℕ → Burst → Bridge → Bridge
@@ -132,34 +68,8 @@ readArea b q area = cond (eqb (readRefusal b q (length area)) 0) (filled (readBy
 
 -- ---- writes
 
--- 'writes skip 5 to 7'
 unfoldable pub writeRefusal : Bridge → Burst → ℕ → ℕ → ℕ
-writeRefusal b q len room =
-    firstOf
-    ((ltb room areaSize, 8)
-    ∷ (not (eqb (burstNumber q) 0), 3)
-    ∷ (not (eqb (foundNumber (windowFor (b .settings .windows) q)) 0), 2)
-    ∷ (not (eqb (dataNumber q len) 0), 15)
-    ∷ (not (b .core .registers .link), 4)
-    ∷ [])
-
--- the packet of the k-th piece: 'each header followed by its words, unwanted bytes zero'; 'a memory write has tag 0'
-unfoldable pub writePacket : Settings → Burst → List ℕ → ℕ → List ℕ
-writePacket s q bytes k =
-    packet (pieceRequest true s q 0 (pieceOf (s .writes) q k))
-    (wordsOf (pcieOf (s .windows) q (pieceOf (s .writes) q k .first))
-    (take (pieceOf (s .writes) q k .length) (drop (placeIn q (pieceOf (s .writes) q k)) bytes)))
-
--- the packets of the first k pieces; one that the area cannot hold any more is left out: accepted settings make none
-unfoldable pub writeSent : Settings → Burst → List ℕ → ℕ → ℕ → List ℕ
-writeSent s q bytes room zero = []
-writeSent s q bytes room (suc k) =
-    cond (leb (length (writeSent s q bytes room k) + length (writePacket s q bytes k)) room)
-    (writeSent s q bytes room k ++ writePacket s q bytes k)
-    (writeSent s q bytes room k)
-
-abbrev pub writeBytes : Settings → Burst → List ℕ → ℕ → List ℕ
-writeBytes s q bytes room = writeSent s q bytes room (piecesOf (s .writes) q)
+writeRefusal b q len room = writeNumber (b .settings) (b .core) q len room
 
 -- 'Writes are posted: OKAY when sent'
 unfoldable pub writeStep : Bridge → Burst → List ℕ → ℕ → Answered

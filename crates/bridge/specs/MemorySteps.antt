@@ -1,13 +1,2 @@
--- What the steps of a memory call do; only contracts of inner functions cite it.
-use mathlib.Core.Path.{_≡_}
-use mathlib.Core.List.{List}
-use mathlib.Core.Bool.{cond}
-use Prim.Native.Nat.{ℕ, _+_}
-use lib.ListN.{length}
-use lib.Dec.{leb}
-use lib.Seq.{paste}
-
--- a packet p is put into an area from a place on, if the area can hold it: where the next one goes, and the area after
-pub record Put (area : List ℕ) (at : ℕ) (p : List ℕ) (next : ℕ) (after : List ℕ) : Type 0 where
-  pub next-at : next ≡ cond (leb (at + length p) (length area)) (at + length p) at
-  pub area-after : after ≡ cond (leb (at + length p) (length area)) (paste area at p (length p)) area
+-- What a step of a write does, defined in `packets`, and passed on.
+pub use Rattle.packets.specs.Steps.{Put}

@@ -1,25 +1,18 @@
 -- Taking a finished answer: a look and a release, 'two calls with one set of refusals' (01, 'Ticks and the link').
+-- The state of a slot and the refusals are defined in `parts`, and passed on.
 use Prim.Native.Nat.{ℕ, _*_}
-use mathlib.Core.List.{List, [], _∷_}
-use mathlib.Core.Bool.{Bool, true, false, cond, not}
+use mathlib.Core.List.{List, []}
+use mathlib.Core.Bool.{cond}
 use lib.ListN.{length, getD, set, take, drop}
-use lib.Dec.{ltb, leb, eqb}
-use Rattle.common.specs.Tests.{firstOf}
+use lib.Dec.{ltb, eqb}
 use Rattle.bridge.specs.declared.Bridge.{Bridge}
 use Rattle.bridge.specs.declared.Answered.{Answered}
 use Rattle.bridge.specs.State.{withConfig, coreIn, slotsIn, freeConfig, responseOf, accepted, answered, refused}
-use Rattle.bridge.specs.Completions.{storeSize, sizeOf}
-
--- 'Slot 8 is the configuration slot'; past it there is no slot
-unfoldable pub stateIn : ℕ → List ℕ → ℕ → ℕ
-stateIn config states k = cond (eqb k 8) config (cond (ltb k 8) (getD states k 0) 0)
+use Rattle.bridge.specs.Completions.{sizeOf}
+unfoldable pub use Rattle.parts.specs.Numbers.{stateIn, takeNumber}
 
 abbrev pub stateOf : Bridge → ℕ → ℕ
 stateOf b k = stateIn (b .core .config .state) (b .state) k
-
--- order: take 8, 14; 'nothing finished there to take, or no such slot'
-unfoldable pub takeNumber : ℕ → ℕ → ℕ
-takeNumber room found = firstOf ((ltb room storeSize, 8) ∷ (not (eqb found 2), 14) ∷ [])
 
 abbrev pub takeRefusal : Bridge → ℕ → ℕ → ℕ
 takeRefusal b room k = takeNumber room (stateOf b k)

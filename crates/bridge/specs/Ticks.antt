@@ -1,25 +1,18 @@
--- Ticks and the link (01, 'Ticks and the link').
-use Prim.Native.Nat.{ℕ, zero, suc, _+_, _-_, _%_, _^_}
+-- Ticks and the link (01, 'Ticks and the link'). What concerns the core alone is defined in `parts`, and passed on.
+use Prim.Native.Nat.{ℕ, zero, suc, _-_, _^_}
 use mathlib.Core.List.{List}
-use mathlib.Core.Bool.{Bool, true, false, cond, _&&_, not}
+use mathlib.Core.Bool.{Bool, false, cond, _&&_, not}
 use lib.ListN.{length, getD, set, replicate}
 use lib.Dec.{ltb, eqb}
-use Rattle.ecam.specs.declared.Registers.{Registers}
-use Rattle.bridge.specs.declared.ConfigSlot.{ConfigSlot}
-use Rattle.bridge.specs.declared.Core.{Core}
+use Rattle.parts.specs.declared.Core.{Core}
 use Rattle.bridge.specs.declared.Bridge.{Bridge}
 use Rattle.bridge.specs.declared.Answered.{Answered}
-use Rattle.bridge.specs.declared.Cause.the-variants.{Timeout}
-use Rattle.bridge.specs.State.{tagCount, withRegisters, withTicks, withFree, withConfig, coreIn, tagsIn, slotsIn, raise, raisedCore, missingOf, placeOf, ownerOf, isOpen, shut, slverr}
+use Rattle.verdict.specs.declared.Cause.the-variants.{Timeout}
+use Rattle.bridge.specs.State.{tagCount, withTicks, withFree, withConfig, coreIn, tagsIn, slotsIn, raise, raisedCore, missingOf, placeOf, ownerOf, isOpen, shut, slverr}
 use Rattle.bridge.specs.Completions.{storeSize, Held, held, zeroed, sizeOf, failed, pieceClosed, configDone, plain}
-
--- 'A 32-bit tick counter starts again at zero after its last value'
-abbrev pub nextTick : ℕ → ℕ
-nextTick x = (x + 1) % 2 ^ 32
-
--- 'age (ticks since sending)', on a counter that wraps
-abbrev pub ageOf : ℕ → ℕ → ℕ
-ageOf now then = (now + (2 ^ 32 - then)) % 2 ^ 32
+pub use Rattle.parts.specs.Cores.{withLink, linkIn}
+pub use Rattle.parts.specs.Access.{dropConfig}
+pub use Rattle.parts.specs.Numbers.{nextTick, ageOf}
 
 -- ---- a tick
 
@@ -64,21 +57,6 @@ tickStep b store =
 
 -- ---- the link
 
-abbrev pub withLink : Bool → Registers → Registers
-withLink up r =
-    record {
-      primary = r .primary;
-      secondary = r .secondary;
-      subordinate = r .subordinate;
-      disable = r .disable;
-      decode = r .decode;
-      mask = r .mask;
-      link = up;
-    }
-
-abbrev pub linkIn : Bool → Core → Core
-linkIn up c = withRegisters (withLink up (c .registers)) c
-
 -- a read that is open in slot k is finished as SLVERR with zero data
 unfoldable pub dropSlot : Held → ℕ → Held
 dropSlot h k =
@@ -92,10 +70,6 @@ dropSlot h k =
 unfoldable pub dropSlots : Held → ℕ → Held
 dropSlots h zero = h
 dropSlots h (suc n) = dropSlot (dropSlots h n) n
-
--- and so is an open configuration access
-abbrev pub dropConfig : ConfigSlot → ConfigSlot
-dropConfig c = cond (eqb (c .state) 1) (configDone c slverr 0) c
 
 -- 'Link going down sets bit 0, finishes each open access .. and frees every tag'
 unfoldable pub linkLost : Bridge → Bridge

@@ -1,47 +1,14 @@
 // A new bridge, and what can be read of one.
 use crate::Answered;
 use crate::Bridge;
-use crate::ConfigSlot;
-use crate::Core;
 use crate::Response;
-use crate::answers::accepted_as;
-use crate::answers::refusal_of;
 use address::Settings;
 use ecam::Registers;
+use parts::answers::accepted_as;
+use parts::answers::refusal_of;
+use parts::cores::fresh_core;
 ghost use mathlib.Core.Path.{_≡_};
-ghost use Rattle.bridge.specs.State.{freeConfig, freshCore, freshBridge, newBridge, registersOf, lineOf};
-
-// A configuration slot that is free.
-pub fn free_config() -> ConfigSlot
-    ensures { λ r. ⌜ r ≡ freeConfig ⌝ }
-{
-    ConfigSlot {
-        state: 0,
-        write: false,
-        response: 0,
-        word: 0,
-    }
-}
-
-fn fresh_core() -> Core
-    ensures { λ r. ⌜ r ≡ freshCore ⌝ }
-{
-    let registers = Registers {
-        primary: 0,
-        secondary: 0,
-        subordinate: 0,
-        disable: false,
-        decode: 0,
-        mask: 0,
-        link: false,
-    };
-    Core {
-        registers: registers,
-        ticks: 0,
-        free: 0xFFFF_FFFF,
-        config: free_config(),
-    }
-}
+ghost use Rattle.bridge.specs.State.{freshBridge, newBridge, registersOf, lineOf};
 
 fn fresh_bridge(s: Settings) -> Bridge
     ensures { λ r. ⌜ r ≡ freshBridge s ⌝ }

@@ -1,43 +1,19 @@
 // The link.
 use crate::Answered;
 use crate::Bridge;
-use crate::ConfigSlot;
 use crate::Core;
 use crate::Done;
-use crate::answers::plain_answer;
-use crate::answers::raise_in;
-use crate::complete::size_of;
-use crate::complete::zero_at;
+use parts::answers::plain_answer;
+use parts::cores::lost_core;
+use parts::cores::with_link;
+use tables::slots::drop_slot_in;
 ghost use mathlib.Core.Path.{_≡_};
-ghost use mathlib.Core.Bool.{false};
-ghost use Prim.Native.Nat.{_≤_, _<_, _^_, _-_};
+ghost use Prim.Native.Nat.{_≤_, _<_, _-_};
 ghost use lib.ListN.{length};
 ghost use Rattle.bridge.specs.declared.Bridge.{Bridge};
-ghost use Rattle.bridge.specs.State.{tagCount, withFree, withConfig, raisedCore, coreIn, tagsIn, slotsIn};
+ghost use Rattle.bridge.specs.State.{coreIn, tagsIn, slotsIn};
 ghost use Rattle.bridge.specs.Completions.{storeSize, held, plain};
-ghost use Rattle.bridge.specs.Ticks.{storeRefusal, linkIn, dropSlot, dropSlots, dropConfig, linked, linkStep};
-
-// A read that is open in slot k is finished as SLVERR with zero data.
-fn drop_slot_in(
-    state: &mut [u32; 8],
-    size: &[u32; 8],
-    pieces: &mut [u32; 8],
-    cause: &mut [u32; 8],
-    store: &mut [u8],
-    k: usize,
-)
-    requires { ⌜ (k < 8) × (storeSize ≤ length (now store)) ⌝ }
-    ensures { λ _. ⌜ ((b : Bridge) → held (slotsIn (now (state .exit)) (b .start) (now (size .entry)) (now (pieces .exit)) (b .fault) (now (cause .exit)) b) (now (store .exit)) ≡ dropSlot (held (slotsIn (now (state .entry)) (b .start) (now (size .entry)) (now (pieces .entry)) (b .fault) (now (cause .entry)) b) (now (store .entry))) k) ⌝ }
-{
-    if state[k] != 1 {
-        return;
-    }
-    let n = size_of(size[k]);
-    state[k] = 2;
-    pieces[k] = 0;
-    cause[k] = 2;
-    zero_at(store, k, n);
-}
+ghost use Rattle.bridge.specs.Ticks.{storeRefusal, dropSlot, dropSlots, linked, linkStep};
 
 fn drop_slots_in(
     state: &mut [u32; 8],
@@ -54,41 +30,6 @@ fn drop_slots_in(
         drop_slot_in(state, size, pieces, cause, store, k);
         k += 1;
     }
-}
-
-fn with_link(c: Core, up: bool) -> Core
-    ensures { λ r. ⌜ r ≡ linkIn up c ⌝ }
-{
-    let mut r = c.registers;
-    r.link = up;
-    let mut d = c;
-    d.registers = r;
-    d
-}
-
-fn drop_config(c: ConfigSlot) -> ConfigSlot
-    ensures { λ r. ⌜ r ≡ dropConfig c ⌝ }
-{
-    if c.state == 1 {
-        return ConfigSlot {
-            state: 2,
-            write: c.write,
-            response: 2,
-            word: 0,
-        };
-    }
-    c
-}
-
-// Every tag is free, an open configuration access is finished, bit 0 is set.
-fn lost_core(c: Core) -> Core
-    ensures { λ r. ⌜ r ≡ raisedCore 0 (linkIn false (withFree (2 ^ tagCount - 1) (withConfig (dropConfig (c .config)) c))) ⌝ }
-{
-    let config = c.config;
-    let mut d = c;
-    d.config = drop_config(config);
-    d.free = 4294967295;
-    raise_in(with_link(d, false), 0)
 }
 
 // The link goes up or down, on lent tables.

@@ -3,52 +3,19 @@ use crate::Answered;
 use crate::Bridge;
 use crate::Core;
 use crate::Done;
-use crate::Response;
-use crate::answers::accepted_as;
-use crate::answers::refuse;
-use crate::answers::response_of;
-use crate::fresh::free_config;
 use common::index;
+use parts::access::free_config;
+use parts::answers::accepted_as;
+use parts::answers::refuse;
+use parts::answers::response_of;
+use parts::numbers::number_for;
+use parts::numbers::state_in;
+use parts::numbers::within_slot;
 ghost use mathlib.Core.Path.{_≡_};
-ghost use Prim.Native.Nat.{_≤_, min};
 ghost use lib.ListN.{length};
 ghost use Rattle.bridge.specs.declared.Bridge.{Bridge};
 ghost use Rattle.bridge.specs.State.{coreIn, answered};
-ghost use Rattle.bridge.specs.Take.{stateIn, takeNumber, takeRefusal, looked, statesIn, releaseStep};
-
-// The state of a slot: 8 is the configuration slot, and there are no more.
-fn state_in(config: u32, state: &[u32; 8], slot: u32) -> u32
-    ensures { λ r. ⌜ r ≡ stateIn config (now (state .entry)) slot ⌝ }
-{
-    if slot == 8 {
-        return config;
-    }
-    if slot < 8 {
-        let k = index(slot);
-        return state[k];
-    }
-    0
-}
-
-// What look and release refuse, with the state that was found.
-fn number_for(room: usize, found: u32) -> u32
-    ensures { λ r. ⌜ r ≡ takeNumber room found ⌝ }
-{
-    if room < 32768 {
-        return 8;
-    }
-    if found != 2 {
-        return 14;
-    }
-    0
-}
-
-// A burst's length, within its slot.
-fn within_slot(n: u32) -> usize
-    ensures { λ r. ⌜ (r ≡ min n 4096) × (r ≤ 4096) ⌝ }
-{
-    if n < 4096 { n as usize } else { 4096 }
-}
+ghost use Rattle.bridge.specs.Take.{takeRefusal, looked, statesIn, releaseStep};
 
 // A finished slot is free, and its response and data word are handed out.
 pub fn release_in(c: Core, state: &mut [u32; 8], cause: &[u32; 8], store: &[u8], slot: u32) -> Done

@@ -2,61 +2,23 @@
 use crate::Answered;
 use crate::Bridge;
 use crate::Cause;
-use crate::ConfigSlot;
 use crate::Core;
 use crate::Done;
-use crate::answers::plain_answer;
-use crate::answers::raise_in;
-use crate::complete::close_piece_in;
-use crate::complete::fail_in;
-use crate::complete::shut_in;
-use crate::verdicts::is_open;
 use common::index;
+use parts::access::config_timeout;
+use parts::answers::plain_answer;
+use parts::numbers::is_old;
+use parts::numbers::next_tick;
+use tables::slots::close_piece_in;
+use tables::slots::fail_in;
+use tables::tagged::shut_in;
 ghost use mathlib.Core.Path.{_≡_};
-ghost use mathlib.Core.Bool.{_&&_};
 ghost use Prim.Native.Nat.{_≤_, _<_};
 ghost use lib.ListN.{length};
-ghost use lib.Dec.{eqb};
 ghost use Rattle.bridge.specs.declared.Bridge.{Bridge};
-ghost use Rattle.bridge.specs.State.{tagCount, withTicks, withConfig, raisedCore, coreIn, tagsIn, slotsIn, isOpen, slverr};
-ghost use Rattle.bridge.specs.Completions.{storeSize, held, configDone, plain};
-ghost use Rattle.bridge.specs.Ticks.{nextTick, ageOf, storeRefusal, timedOut, expire, expireTo, ticked, tickStep};
-
-// The counter starts again at zero after its last value.
-fn next_tick(x: u32) -> u32
-    ensures { λ r. ⌜ r ≡ nextTick x ⌝ }
-{
-    std::num::wrapping_add_u32(x, 1)
-}
-
-// Ticks since sending. The wrapping difference is right because the time limit is small.
-fn age(now: u32, then: u32) -> u32
-    ensures { λ r. ⌜ r ≡ ageOf now then ⌝ }
-{
-    std::num::wrapping_sub_u32(now, then)
-}
-
-fn is_old(missing: u32, place: u32, now: u32, then: u32, limit: u32) -> bool
-    ensures { λ r. ⌜ r ≡ isOpen missing place && eqb (ageOf now then) limit ⌝ }
-{
-    is_open(missing, place) & (age(now, then) == limit)
-}
-
-// The configuration access is finished as SLVERR with zero data, and bit 8 is set.
-fn config_timeout(c: Core) -> Core
-    ensures { λ r. ⌜ r ≡ raisedCore 8 (withConfig (configDone (c .config) slverr 0) c) ⌝ }
-{
-    let config = c.config;
-    let done = ConfigSlot {
-        state: 2,
-        write: config.write,
-        response: 2,
-        word: 0,
-    };
-    let mut d = c;
-    d.config = done;
-    raise_in(d, 8)
-}
+ghost use Rattle.bridge.specs.State.{tagCount, coreIn, tagsIn, slotsIn};
+ghost use Rattle.bridge.specs.Completions.{storeSize, held, plain};
+ghost use Rattle.bridge.specs.Ticks.{storeRefusal, timedOut, expire, expireTo, ticked, tickStep};
 
 // A request is closed, and its tag rests.
 fn time_out_in(

@@ -6,8 +6,8 @@ use Rattle.bridge.proofs.Bridge.look.Statement.{statement}
 use Rattle.bridge.proofs.Bridge.look.Tie as tie
 use Rattle.bridge.proofs.Bridge.look.Reads as reads
 use Rattle.bridge.proofs.Bridge.look.Lts as lts
-use Rattle.bridge.proofs.take.state_in.Reads as state-in-reads
-use Rattle.bridge.proofs.take.within_slot.Reads as within-slot-reads
+use Rattle.parts.proofs.numbers.state_in.Reads as state-in-reads
+use Rattle.parts.proofs.numbers.within_slot.Reads as within-slot-reads
 use Rattle.common.proofs.index.Reads as index-reads
 
 -- src/take.rt:98:13

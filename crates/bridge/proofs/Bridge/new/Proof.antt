@@ -7,8 +7,8 @@ use Rattle.bridge.proofs.Bridge.new.Reads as reads
 use Rattle.bridge.proofs.Bridge.new.Lts as lts
 use Rattle.address.proofs.example_settings.Reads as example-settings-reads
 use Rattle.address.proofs.settings_number.Reads as settings-number-reads
-use Rattle.bridge.proofs.answers.accepted_as.Reads as accepted-as-reads
-use Rattle.bridge.proofs.answers.refusal_of.Reads as refusal-of-reads
+use Rattle.parts.proofs.answers.accepted_as.Reads as accepted-as-reads
+use Rattle.parts.proofs.answers.refusal_of.Reads as refusal-of-reads
 use Rattle.bridge.proofs.fresh.fresh_bridge.Reads as fresh-bridge-reads
 
 -- src/fresh.rt:73:13

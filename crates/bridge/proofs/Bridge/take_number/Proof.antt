@@ -3,8 +3,8 @@ use Rattle.bridge.proofs.Bridge.take_number.Statement.{statement}
 use Rattle.bridge.proofs.Bridge.take_number.Tie as tie
 use Rattle.bridge.proofs.Bridge.take_number.Reads as reads
 use Rattle.bridge.proofs.Bridge.take_number.Lts as lts
-use Rattle.bridge.proofs.take.number_for.Reads as number-for-reads
-use Rattle.bridge.proofs.take.state_in.Reads as state-in-reads
+use Rattle.parts.proofs.numbers.number_for.Reads as number-for-reads
+use Rattle.parts.proofs.numbers.state_in.Reads as state-in-reads
 
 -- src/take.rt:89:13
 state-in-requires : tie.Need-state-in-requires

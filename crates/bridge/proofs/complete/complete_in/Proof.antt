@@ -1,6 +1,6 @@
 use lib.Seq.{take-all}
 use Rattle.tlp.specs.declared.completion.CompletionRead.the-variants.{Header}
-use Rattle.bridge.specs.CompletionLaws.{Whole}
+use Rattle.bridge.specs.Expected.{Whole}
 use Rattle.bridge.proofs.Judging.{read-whole}
 use Rattle.bridge.specs.Completions.{held, Held, verdictOf, isUnexpected, expected, completeRefusal, completed}
 use Rattle.bridge.specs.State.{coreIn, refusalChange}
@@ -11,7 +11,7 @@ use mathlib.Core.Bool.{Bool, true, false, cond}
 use Rattle.bridge.specs.Lent.{completing}
 use native.Mathlib.Omega.{arith}
 use Prim.Native.Nat.{ℕ, _+_, _-_, _*_, _%_, _≤_, _<_}
-use Rattle.bridge.specs.declared.Core.{Core}
+use Rattle.parts.specs.declared.Core.{Core}
 use Rattle.bridge.specs.declared.Bridge.{Bridge}
 use mathlib.Core.Path.{_≡_, refl, sym, ap, _∙_}
 use borrow.Author.Needs.{needs}
@@ -19,8 +19,8 @@ use Rattle.bridge.proofs.complete.complete_in.Statement.{statement}
 use Rattle.bridge.proofs.complete.complete_in.Tie as tie
 use Rattle.bridge.proofs.complete.complete_in.Reads as reads
 use Rattle.bridge.proofs.complete.complete_in.Lts as lts
-use Rattle.bridge.proofs.answers.refuse.Reads as refuse-reads
-use Rattle.bridge.proofs.complete.completion_of.Reads as completion-of-reads
+use Rattle.parts.proofs.answers.refuse.Reads as refuse-reads
+use Rattle.tables.proofs.packet.completion_of.Reads as completion-of-reads
 use Rattle.bridge.proofs.complete.header_in.Reads as header-in-reads
 
 -- what a header's completion comes to, in the order of the cascade and as one test

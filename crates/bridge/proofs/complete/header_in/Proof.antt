@@ -5,7 +5,7 @@ use lib.ListN.{length, getD}
 use Rattle.bridge.specs.Lent.{completing}
 use native.Mathlib.Omega.{arith}
 use Prim.Native.Nat.{ℕ, _+_, _*_, _%_, _≤_, _<_}
-use Rattle.bridge.specs.declared.Core.{Core}
+use Rattle.parts.specs.declared.Core.{Core}
 use Rattle.bridge.specs.declared.Bridge.{Bridge}
 use mathlib.Core.Path.{_≡_, refl, sym, ap, _∙_}
 use borrow.Author.Needs.{needs}
@@ -13,12 +13,12 @@ use Rattle.bridge.proofs.complete.header_in.Statement.{statement}
 use Rattle.bridge.proofs.complete.header_in.Tie as tie
 use Rattle.bridge.proofs.complete.header_in.Reads as reads
 use Rattle.bridge.proofs.complete.header_in.Lts as lts
-use Rattle.bridge.proofs.answers.plain_answer.Reads as plain-answer-reads
-use Rattle.bridge.proofs.answers.refuse.Reads as refuse-reads
+use Rattle.parts.proofs.answers.plain_answer.Reads as plain-answer-reads
+use Rattle.parts.proofs.answers.refuse.Reads as refuse-reads
 use Rattle.bridge.proofs.complete.config_in.Reads as config-in-reads
-use Rattle.bridge.proofs.complete.memory_in.Reads as memory-in-reads
+use Rattle.bridge.proofs.pieces.memory_in.Reads as memory-in-reads
 use Rattle.bridge.proofs.complete.verdict_in.Reads as verdict-in-reads
-use Rattle.bridge.proofs.verdicts.is_unexpected.Reads as is-unexpected-reads
+use Rattle.verdict.proofs.is_unexpected.Reads as is-unexpected-reads
 use Rattle.common.proofs.index.Reads as index-reads
 
 -- src/complete.rt:487:9

@@ -13,11 +13,11 @@ use Rattle.bridge.proofs.complete.verdict_in.Statement.{statement}
 use Rattle.bridge.proofs.complete.verdict_in.Tie as tie
 use Rattle.bridge.proofs.complete.verdict_in.Reads as reads
 use Rattle.bridge.proofs.complete.verdict_in.Lts as lts
-use Rattle.bridge.proofs.complete.entries.Reads as entries-reads
-use Rattle.bridge.proofs.verdicts.config_verdict.Reads as config-verdict-reads
-use Rattle.bridge.proofs.verdicts.is_open.Reads as is-open-reads
-use Rattle.bridge.proofs.verdicts.long.Reads as long-reads
-use Rattle.bridge.proofs.verdicts.memory_verdict.Reads as memory-verdict-reads
+use Rattle.tables.proofs.packet.entries.Reads as entries-reads
+use Rattle.verdict.proofs.config_verdict.Reads as config-verdict-reads
+use Rattle.verdict.proofs.is_open.Reads as is-open-reads
+use Rattle.verdict.proofs.long.Reads as long-reads
+use Rattle.verdict.proofs.memory_verdict.Reads as memory-verdict-reads
 use Rattle.common.proofs.index.Reads as index-reads
 
 -- src/complete.rt:371:9

@@ -4,7 +4,7 @@ use Rattle.bridge.proofs.fresh.fresh_bridge.Statement.{statement}
 use Rattle.bridge.proofs.fresh.fresh_bridge.Tie as tie
 use Rattle.bridge.proofs.fresh.fresh_bridge.Reads as reads
 use Rattle.bridge.proofs.fresh.fresh_bridge.Lts as lts
-use Rattle.bridge.proofs.fresh.fresh_core.Reads as fresh-core-reads
+use Rattle.parts.proofs.cores.fresh_core.Reads as fresh-core-reads
 
 -- src/fresh.rt:49:9
 fresh-core-requires : tie.Need-fresh-core-requires

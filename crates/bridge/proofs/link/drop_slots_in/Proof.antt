@@ -1,3 +1,4 @@
+use Rattle.bridge.proofs.Changes.{drops}
 use mathlib.Core.Path.{_≡_, refl, ap, subst, _∙_}
 use Prim.Native.Nat.{ℕ, _≤_, _-_, zero-le}
 use native.Mathlib.Numerals.{add-one}
@@ -11,7 +12,7 @@ use Rattle.bridge.proofs.link.drop_slots_in.Statement.{statement}
 use Rattle.bridge.proofs.link.drop_slots_in.Tie as tie
 use Rattle.bridge.proofs.link.drop_slots_in.Reads as reads
 use Rattle.bridge.proofs.link.drop_slots_in.Lts as lts
-use Rattle.bridge.proofs.link.drop_slot_in.Reads as drop-slot-in-reads
+use Rattle.tables.proofs.slots.drop_slot_in.Reads as drop-slot-in-reads
 
 abbrev Inv-loop : tie.InvT-loop
 Inv-loop state₀ size pieces₀ cause₀ store₀ k₀ state pieces cause store k =
@@ -44,7 +45,7 @@ loop-less c = omega arith
 -- src/link.rt:60:5
 loop-again : tie.Need-loop-again Inv-loop μ-loop
 unfolding dropSlots
-loop-again c = (omega arith, (c .before .before .drop-slot-in .kept .1 .1 .1 .1 .0 ∙ c .before .before .before .before .before .before .before .before .loop .inv .1 .0, λ b. rw (add-one, ← c .before .before .before .before .before .before .before .before .loop .inv .1 .1 b) (c .before .before .drop-slot-in .ensures b)))
+loop-again c = (omega arith, (c .before .before .drop-slot-in .kept .1 .1 .1 .1 .0 ∙ c .before .before .before .before .before .before .before .before .loop .inv .1 .0, λ b. rw (add-one, ← c .before .before .before .before .before .before .before .before .loop .inv .1 .1 b) (drops (c .before .before .drop-slot-in .ensures) b)))
 
 -- src/link.rt:49:1
 same-length : tie.Need-same-length Inv-loop μ-loop

@@ -7,10 +7,10 @@ use Rattle.bridge.proofs.link.link_in.Statement.{statement}
 use Rattle.bridge.proofs.link.link_in.Tie as tie
 use Rattle.bridge.proofs.link.link_in.Reads as reads
 use Rattle.bridge.proofs.link.link_in.Lts as lts
-use Rattle.bridge.proofs.answers.plain_answer.Reads as plain-answer-reads
+use Rattle.parts.proofs.answers.plain_answer.Reads as plain-answer-reads
 use Rattle.bridge.proofs.link.drop_slots_in.Reads as drop-slots-in-reads
-use Rattle.bridge.proofs.link.lost_core.Reads as lost-core-reads
-use Rattle.bridge.proofs.link.with_link.Reads as with-link-reads
+use Rattle.parts.proofs.cores.lost_core.Reads as lost-core-reads
+use Rattle.parts.proofs.cores.with_link.Reads as with-link-reads
 
 -- src/link.rt:118:21
 plain-answer-requires : tie.Need-plain-answer-requires

@@ -6,17 +6,18 @@ use denote.Ref.{now}
 use Rattle.bridge.specs.State.{bridgeOf, freeSlot, refused}
 use Rattle.bridge.specs.Memory.{readRefusal}
 use Rattle.bridge.proofs.Refusals.{read-ok, read-refused, read-done}
+use Rattle.bridge.proofs.Changes.{claims, read-number}
 use borrow.Author.Needs.{needs}
 use Rattle.bridge.proofs.memory.read_in.Statement.{statement}
 use Rattle.bridge.proofs.memory.read_in.Tie as tie
 use Rattle.bridge.proofs.memory.read_in.Reads as reads
 use Rattle.bridge.proofs.memory.read_in.Lts as lts
-use Rattle.bridge.proofs.answers.accepted_as.Reads as accepted-as-reads
-use Rattle.bridge.proofs.answers.refuse.Reads as refuse-reads
-use Rattle.bridge.proofs.memory.claim.Reads as claim-reads
-use Rattle.bridge.proofs.memory.free_slot.Reads as free-slot-reads
+use Rattle.parts.proofs.answers.accepted_as.Reads as accepted-as-reads
+use Rattle.parts.proofs.answers.refuse.Reads as refuse-reads
+use Rattle.tables.proofs.opening.claim.Reads as claim-reads
+use Rattle.parts.proofs.numbers.free_slot.Reads as free-slot-reads
 use Rattle.bridge.proofs.memory.read_pieces.Reads as read-pieces-reads
-use Rattle.bridge.proofs.memory.read_refusal.Reads as read-refusal-reads
+use Rattle.tables.proofs.refusals.read_refusal.Reads as read-refusal-reads
 
 -- src/memory.rt:285:9
 free-slot-requires : tie.Need-free-slot-requires
@@ -37,7 +38,7 @@ returns c =
     let a = c .before .before .before .before .before .before .args in
     let b = bridgeOf (a .s) (a .c) (now (c .before .before .before .before .before .before .args .missing)) (now (c .before .before .before .before .before .before .args .sent)) (now (c .before .before .before .before .before .before .args .owner)) (now (c .before .before .before .before .before .before .args .place)) (now (c .before .before .before .before .before .before .args .state)) (now (c .before .before .before .before .before .before .args .start)) (now (c .before .before .before .before .before .before .args .size)) (now (c .before .before .before .before .before .before .args .pieces)) (now (c .before .before .before .before .before .before .args .fault)) (now (c .before .before .before .before .before .before .args .cause)) in
     let es : c .before .before .before .free-slot .result ≡ freeSlot b = c .before .before .before .free-slot .ensures in
-    let er = c .before .before .read-refusal .ensures (now (c .before .before .before .before .before .before .args .missing)) (now (c .before .before .before .before .before .before .args .sent)) (now (c .before .before .before .before .before .before .args .owner)) (now (c .before .before .before .before .before .before .args .place)) (now (c .before .before .before .before .before .before .args .state)) (now (c .before .before .before .before .before .before .args .start)) (now (c .before .before .before .before .before .before .args .size)) (now (c .before .before .before .before .before .before .args .pieces)) (now (c .before .before .before .before .before .before .args .fault)) (now (c .before .before .before .before .before .before .args .cause)) (sym es) in
+    let er = read-number b (a .q) (length (now (a .area))) es (c .before .before .read-refusal .ensures) in
     let r = read-refused b (a .q) (now (a .area)) (c .before .before .read-refusal .result) er (c .before .if1 .taken) in
     (rw (c .refuse .ensures .0, c .refuse .ensures .1) (r .0), r .1)
 
@@ -47,7 +48,7 @@ claim-requires c κs =
     let a = c .before .before .before .before .before .before .before .before .before .before .before .args in
     let b = bridgeOf (a .s) (a .c) (now (c .before .before .before .before .before .before .before .before .before .before .before .args .missing)) (now (c .before .before .before .before .before .before .before .before .before .before .before .args .sent)) (now (c .before .before .before .before .before .before .before .before .before .before .before .args .owner)) (now (c .before .before .before .before .before .before .before .before .before .before .before .args .place)) (now (c .before .before .before .before .before .before .before .before .before .before .before .args .state)) (now (c .before .before .before .before .before .before .before .before .before .before .before .args .start)) (now (c .before .before .before .before .before .before .before .before .before .before .before .args .size)) (now (c .before .before .before .before .before .before .before .before .before .before .before .args .pieces)) (now (c .before .before .before .before .before .before .before .before .before .before .before .args .fault)) (now (c .before .before .before .before .before .before .before .before .before .before .before .args .cause)) in
     let es : c .before .before .before .before .before .before .before .before .free-slot .result ≡ freeSlot b = c .before .before .before .before .before .before .before .before .free-slot .ensures in
-    let er = c .before .before .before .before .before .before .before .read-refusal .ensures (now (c .before .before .before .before .before .before .before .before .before .before .before .args .missing)) (now (c .before .before .before .before .before .before .before .before .before .before .before .args .sent)) (now (c .before .before .before .before .before .before .before .before .before .before .before .args .owner)) (now (c .before .before .before .before .before .before .before .before .before .before .before .args .place)) (now (c .before .before .before .before .before .before .before .before .before .before .before .args .state)) (now (c .before .before .before .before .before .before .before .before .before .before .before .args .start)) (now (c .before .before .before .before .before .before .before .before .before .before .before .args .size)) (now (c .before .before .before .before .before .before .before .before .before .before .before .args .pieces)) (now (c .before .before .before .before .before .before .before .before .before .before .before .args .fault)) (now (c .before .before .before .before .before .before .before .before .before .before .before .args .cause)) (sym es) in
+    let er = read-number b (a .q) (length (now (a .area))) es (c .before .before .before .before .before .before .before .read-refusal .ensures) in
     let z : readRefusal b (a .q) (length (now (a .area))) ≡ 0 = sym er ∙ c .before .before .before .before .before .before .if1 .left in
     let ok = read-ok b (a .q) (length (now (a .area))) z in
     omega (arith, es, ok .slot)
@@ -58,7 +59,7 @@ read-pieces-requires c κs =
     let a = c .before .before .before .before .before .before .before .before .before .before .before .before .before .before .before .before .before .args in
     let b = bridgeOf (a .s) (a .c) (now (c .before .before .before .before .before .before .before .before .before .before .before .before .before .before .before .before .before .args .missing)) (now (c .before .before .before .before .before .before .before .before .before .before .before .before .before .before .before .before .before .args .sent)) (now (c .before .before .before .before .before .before .before .before .before .before .before .before .before .before .before .before .before .args .owner)) (now (c .before .before .before .before .before .before .before .before .before .before .before .before .before .before .before .before .before .args .place)) (now (c .before .before .before .before .before .before .before .before .before .before .before .before .before .before .before .before .before .args .state)) (now (c .before .before .before .before .before .before .before .before .before .before .before .before .before .before .before .before .before .args .start)) (now (c .before .before .before .before .before .before .before .before .before .before .before .before .before .before .before .before .before .args .size)) (now (c .before .before .before .before .before .before .before .before .before .before .before .before .before .before .before .before .before .args .pieces)) (now (c .before .before .before .before .before .before .before .before .before .before .before .before .before .before .before .before .before .args .fault)) (now (c .before .before .before .before .before .before .before .before .before .before .before .before .before .before .before .before .before .args .cause)) in
     let es : c .before .before .before .before .before .before .before .before .before .before .before .before .before .before .free-slot .result ≡ freeSlot b = c .before .before .before .before .before .before .before .before .before .before .before .before .before .before .free-slot .ensures in
-    let er = c .before .before .before .before .before .before .before .before .before .before .before .before .before .read-refusal .ensures (now (c .before .before .before .before .before .before .before .before .before .before .before .before .before .before .before .before .before .args .missing)) (now (c .before .before .before .before .before .before .before .before .before .before .before .before .before .before .before .before .before .args .sent)) (now (c .before .before .before .before .before .before .before .before .before .before .before .before .before .before .before .before .before .args .owner)) (now (c .before .before .before .before .before .before .before .before .before .before .before .before .before .before .before .before .before .args .place)) (now (c .before .before .before .before .before .before .before .before .before .before .before .before .before .before .before .before .before .args .state)) (now (c .before .before .before .before .before .before .before .before .before .before .before .before .before .before .before .before .before .args .start)) (now (c .before .before .before .before .before .before .before .before .before .before .before .before .before .before .before .before .before .args .size)) (now (c .before .before .before .before .before .before .before .before .before .before .before .before .before .before .before .before .before .args .pieces)) (now (c .before .before .before .before .before .before .before .before .before .before .before .before .before .before .before .before .before .args .fault)) (now (c .before .before .before .before .before .before .before .before .before .before .before .before .before .before .before .before .before .args .cause)) (sym es) in
+    let er = read-number b (a .q) (length (now (a .area))) es (c .before .before .before .before .before .before .before .before .before .before .before .before .before .read-refusal .ensures) in
     let z : readRefusal b (a .q) (length (now (a .area))) ≡ 0 = sym er ∙ c .before .before .before .before .before .before .before .before .before .before .before .before .if1 .left in
     let ok = read-ok b (a .q) (length (now (a .area))) z in
     (ok .tags, ok .area)
@@ -77,13 +78,13 @@ returns-2 c =
     let a = c .before .before .before .before .before .before .before .before .before .before .before .before .before .before .before .before .before .before .before .before .before .before .args in
     let b = bridgeOf (a .s) (a .c) (now (c .before .before .before .before .before .before .before .before .before .before .before .before .before .before .before .before .before .before .before .before .before .before .args .missing)) (now (c .before .before .before .before .before .before .before .before .before .before .before .before .before .before .before .before .before .before .before .before .before .before .args .sent)) (now (c .before .before .before .before .before .before .before .before .before .before .before .before .before .before .before .before .before .before .before .before .before .before .args .owner)) (now (c .before .before .before .before .before .before .before .before .before .before .before .before .before .before .before .before .before .before .before .before .before .before .args .place)) (now (c .before .before .before .before .before .before .before .before .before .before .before .before .before .before .before .before .before .before .before .before .before .before .args .state)) (now (c .before .before .before .before .before .before .before .before .before .before .before .before .before .before .before .before .before .before .before .before .before .before .args .start)) (now (c .before .before .before .before .before .before .before .before .before .before .before .before .before .before .before .before .before .before .before .before .before .before .args .size)) (now (c .before .before .before .before .before .before .before .before .before .before .before .before .before .before .before .before .before .before .before .before .before .before .args .pieces)) (now (c .before .before .before .before .before .before .before .before .before .before .before .before .before .before .before .before .before .before .before .before .before .before .args .fault)) (now (c .before .before .before .before .before .before .before .before .before .before .before .before .before .before .before .before .before .before .before .before .before .before .args .cause)) in
     let es : c .before .before .before .before .before .before .before .before .before .before .before .before .before .before .before .before .before .before .before .free-slot .result ≡ freeSlot b = c .before .before .before .before .before .before .before .before .before .before .before .before .before .before .before .before .before .before .before .free-slot .ensures in
-    let er = c .before .before .before .before .before .before .before .before .before .before .before .before .before .before .before .before .before .before .read-refusal .ensures (now (c .before .before .before .before .before .before .before .before .before .before .before .before .before .before .before .before .before .before .before .before .before .before .args .missing)) (now (c .before .before .before .before .before .before .before .before .before .before .before .before .before .before .before .before .before .before .before .before .before .before .args .sent)) (now (c .before .before .before .before .before .before .before .before .before .before .before .before .before .before .before .before .before .before .before .before .before .before .args .owner)) (now (c .before .before .before .before .before .before .before .before .before .before .before .before .before .before .before .before .before .before .before .before .before .before .args .place)) (now (c .before .before .before .before .before .before .before .before .before .before .before .before .before .before .before .before .before .before .before .before .before .before .args .state)) (now (c .before .before .before .before .before .before .before .before .before .before .before .before .before .before .before .before .before .before .before .before .before .before .args .start)) (now (c .before .before .before .before .before .before .before .before .before .before .before .before .before .before .before .before .before .before .before .before .before .before .args .size)) (now (c .before .before .before .before .before .before .before .before .before .before .before .before .before .before .before .before .before .before .before .before .before .before .args .pieces)) (now (c .before .before .before .before .before .before .before .before .before .before .before .before .before .before .before .before .before .before .before .before .before .before .args .fault)) (now (c .before .before .before .before .before .before .before .before .before .before .before .before .before .before .before .before .before .before .before .before .before .before .args .cause)) (sym es) in
+    let er = read-number b (a .q) (length (now (a .area))) es (c .before .before .before .before .before .before .before .before .before .before .before .before .before .before .before .before .before .before .read-refusal .ensures) in
     let z : readRefusal b (a .q) (length (now (a .area))) ≡ 0 = sym er ∙ c .before .before .before .before .before .before .before .before .before .before .before .before .before .before .before .before .before .if1 .left in
     let ok = read-ok b (a .q) (length (now (a .area))) z in
     let k = c .before .before .before .before .before .before .before .before .before .before .claim in
     let t = c .before .before .before .before .read-pieces in
     let e = t .ensures (k .last .0) (k .last .1 .0) (k .last .1 .1 .0) (k .last .1 .1 .1 .0) (k .last .1 .1 .1 .1 .0) (k .last .1 .1 .1 .1 .1 .0) in
-    rw (c .accepted-as .ensures) (read-done b (bridgeOf (a .s) (a .c) (now (c .before .before .before .before .before .before .before .before .before .before .before .before .before .before .before .before .before .before .before .before .before .before .args .missing)) (now (c .before .before .before .before .before .before .before .before .before .before .before .before .before .before .before .before .before .before .before .before .before .before .args .sent)) (now (c .before .before .before .before .before .before .before .before .before .before .before .before .before .before .before .before .before .before .before .before .before .before .args .owner)) (now (c .before .before .before .before .before .before .before .before .before .before .before .before .before .before .before .before .before .before .before .before .before .before .args .place)) (k .last .0) (k .last .1 .0) (k .last .1 .1 .0) (k .last .1 .1 .1 .0) (k .last .1 .1 .1 .1 .0) (k .last .1 .1 .1 .1 .1 .0)) (bridgeOf (a .s) (t .result .core) (t .last .1 .1 .0) (t .last .1 .1 .1 .0) (t .last .1 .1 .1 .1 .0) (t .last .1 .1 .1 .1 .1 .0) (k .last .0) (k .last .1 .0) (k .last .1 .1 .0) (k .last .1 .1 .1 .0) (k .last .1 .1 .1 .1 .0) (k .last .1 .1 .1 .1 .1 .0)) (a .q) (c .before .before .before .before .before .before .before .before .before .before .before .before .before .before .before .before .before .before .before .free-slot .result) (t .result .at) (now (a .area)) (t .last .1 .1 .1 .1 .1 .1 .1 .1 .0) es z (k .ensures (a .s) (a .c) (now (c .before .before .before .before .before .before .before .before .before .before .before .before .before .before .before .before .before .before .before .before .before .before .args .missing)) (now (c .before .before .before .before .before .before .before .before .before .before .before .before .before .before .before .before .before .before .before .before .before .before .args .sent)) (now (c .before .before .before .before .before .before .before .before .before .before .before .before .before .before .before .before .before .before .before .before .before .before .args .owner)) (now (c .before .before .before .before .before .before .before .before .before .before .before .before .before .before .before .before .before .before .before .before .before .before .args .place)) refl) (e .0) (e .1 .0) (e .1 .1))
+    rw (c .accepted-as .ensures) (read-done b (bridgeOf (a .s) (a .c) (now (c .before .before .before .before .before .before .before .before .before .before .before .before .before .before .before .before .before .before .before .before .before .before .args .missing)) (now (c .before .before .before .before .before .before .before .before .before .before .before .before .before .before .before .before .before .before .before .before .before .before .args .sent)) (now (c .before .before .before .before .before .before .before .before .before .before .before .before .before .before .before .before .before .before .before .before .before .before .args .owner)) (now (c .before .before .before .before .before .before .before .before .before .before .before .before .before .before .before .before .before .before .before .before .before .before .args .place)) (k .last .0) (k .last .1 .0) (k .last .1 .1 .0) (k .last .1 .1 .1 .0) (k .last .1 .1 .1 .1 .0) (k .last .1 .1 .1 .1 .1 .0)) (bridgeOf (a .s) (t .result .core) (t .last .1 .1 .0) (t .last .1 .1 .1 .0) (t .last .1 .1 .1 .1 .0) (t .last .1 .1 .1 .1 .1 .0) (k .last .0) (k .last .1 .0) (k .last .1 .1 .0) (k .last .1 .1 .1 .0) (k .last .1 .1 .1 .1 .0) (k .last .1 .1 .1 .1 .1 .0)) (a .q) (c .before .before .before .before .before .before .before .before .before .before .before .before .before .before .before .before .before .before .before .free-slot .result) (t .result .at) (now (a .area)) (t .last .1 .1 .1 .1 .1 .1 .1 .1 .0) es z (claims (k .ensures) (a .s) (a .c) (now (c .before .before .before .before .before .before .before .before .before .before .before .before .before .before .before .before .before .before .before .before .before .before .args .missing)) (now (c .before .before .before .before .before .before .before .before .before .before .before .before .before .before .before .before .before .before .before .before .before .before .args .sent)) (now (c .before .before .before .before .before .before .before .before .before .before .before .before .before .before .before .before .before .before .before .before .before .before .args .owner)) (now (c .before .before .before .before .before .before .before .before .before .before .before .before .before .before .before .before .before .before .before .before .before .before .args .place)) refl) (e .0) (e .1 .0) (e .1 .1))
 
 pub read-in-spec : {M : Type 1} → statement M
 read-in-spec =

@@ -2,6 +2,7 @@ use Rattle.bits.specs.Bits.{clearBit}
 use Rattle.tags.specs.Tags.{lowest, available}
 use Rattle.address.specs.Windows.{axi, translated}
 use Rattle.bridge.specs.Memory.{piecesOf, pieceOf, placeIn, memoryRequest, packet}
+use Rattle.bridge.proofs.Changes.{opens}
 use borrow.Author.Needs.{needs}
 use native.Mathlib.Omega.{arith}
 use mathlib.Core.Path.{_≡_, refl, sym, ap, _∙_}
@@ -14,14 +15,14 @@ use denote.Ref.{now}
 use Rattle.tags.proofs.Tags.{available-within}
 use Rattle.burst.specs.Pieces.{pieceCount}
 use Rattle.bridge.specs.State.{tagCount, bridgeOf}
-use Rattle.bridge.proofs.Packets.{packet-short}
+use Rattle.packets.proofs.Packets.{packet-short}
 use Rattle.bridge.proofs.Reading.{Turned, turned-none, turned-more, lowest-below, one-less, opened-free, sends}
 use Rattle.bridge.proofs.memory.read_pieces.Statement.{statement}
 use Rattle.bridge.proofs.memory.read_pieces.Tie as tie
 use Rattle.bridge.proofs.memory.read_pieces.Reads as reads
 use Rattle.bridge.proofs.memory.read_pieces.Lts as lts
-use Rattle.bridge.proofs.memory.read_turn.Reads as read-turn-reads
-use Rattle.bridge.proofs.memory.shift_of.Reads as shift-of-reads
+use Rattle.tables.proofs.opening.read_turn.Reads as read-turn-reads
+use Rattle.packets.proofs.shift_of.Reads as shift-of-reads
 use Rattle.burst.proofs.length_of.Reads as length-of-reads
 use Rattle.burst.proofs.piece_count.Reads as piece-count-reads
 
@@ -86,7 +87,7 @@ loop-again c =
     let m = memoryRequest false (a .s .requester) (lowest tagCount (c .before .before .before .before .before .before .before .before .before .before .loop .core .free)) (translated (c .before .before .before .before .before .before .before .before .before .before .before .before .before .shift-of .result .base) (c .before .before .before .before .before .before .before .before .before .before .before .before .before .shift-of .result .target) (axi (p .first)) .0) (p .length) in
     let z = packet-short m in
     let o = one-less (c .before .before .before .before .before .before .before .before .before .before .loop .core .free) h in
-    let f : t .result .core .free ≡ clearBit (c .before .before .before .before .before .before .before .before .before .before .loop .core .free) (lowest tagCount (c .before .before .before .before .before .before .before .before .before .before .loop .core .free)) = opened-free (a .slot) (placeIn (a .q) p) (p .length) (bridgeOf (a .s) (c .before .before .before .before .before .before .before .before .before .before .loop .core) (c .before .before .before .before .before .before .before .before .before .before .loop .missing) (c .before .before .before .before .before .before .before .before .before .before .loop .sent) (c .before .before .before .before .before .before .before .before .before .before .loop .owner) (c .before .before .before .before .before .before .before .before .before .before .loop .place) [] [] [] [] [] []) (bridgeOf (a .s) (t .result .core) (t .last .1 .0) (t .last .1 .1 .0) (t .last .1 .1 .1 .0) (t .last .1 .1 .1 .1 .0) [] [] [] [] [] []) (t .ensures .0 (bridgeOf (a .s) (c .before .before .before .before .before .before .before .before .before .before .loop .core) (c .before .before .before .before .before .before .before .before .before .before .loop .missing) (c .before .before .before .before .before .before .before .before .before .before .loop .sent) (c .before .before .before .before .before .before .before .before .before .before .loop .owner) (c .before .before .before .before .before .before .before .before .before .before .loop .place) [] [] [] [] [] [])) in
+    let f : t .result .core .free ≡ clearBit (c .before .before .before .before .before .before .before .before .before .before .loop .core .free) (lowest tagCount (c .before .before .before .before .before .before .before .before .before .before .loop .core .free)) = opened-free (a .slot) (placeIn (a .q) p) (p .length) (bridgeOf (a .s) (c .before .before .before .before .before .before .before .before .before .before .loop .core) (c .before .before .before .before .before .before .before .before .before .before .loop .missing) (c .before .before .before .before .before .before .before .before .before .before .loop .sent) (c .before .before .before .before .before .before .before .before .before .before .loop .owner) (c .before .before .before .before .before .before .before .before .before .before .loop .place) [] [] [] [] [] []) (bridgeOf (a .s) (t .result .core) (t .last .1 .0) (t .last .1 .1 .0) (t .last .1 .1 .1 .0) (t .last .1 .1 .1 .1 .0) [] [] [] [] [] []) (opens (t .ensures .0) (bridgeOf (a .s) (c .before .before .before .before .before .before .before .before .before .before .loop .core) (c .before .before .before .before .before .before .before .before .before .before .loop .missing) (c .before .before .before .before .before .before .before .before .before .before .loop .sent) (c .before .before .before .before .before .before .before .before .before .before .loop .owner) (c .before .before .before .before .before .before .before .before .before .before .loop .place) [] [] [] [] [] [])) in
     let g : available tagCount (t .result .core .free) ≡ available tagCount (clearBit (c .before .before .before .before .before .before .before .before .before .before .loop .core .free) (lowest tagCount (c .before .before .before .before .before .before .before .before .before .before .loop .core .free))) = ap (available tagCount) f in
     let y : length (t .last .1 .1 .1 .1 .1 .1 .1 .1 .1 .1 .1 .1 .0) ≡ length (c .before .before .before .before .before .before .before .before .before .before .loop .area) = ap length (t .ensures .1 .1) ∙ length-paste (c .before .before .before .before .before .before .before .before .before .before .loop .area) (c .before .before .before .before .before .before .before .before .before .before .loop .at) (packet m []) (length (packet m [])) (omega arith) (omega arith) in (
       omega (arith, c .before .before .before .before .before .before .before .before .before .loop-test .taken),
@@ -96,7 +97,7 @@ loop-again c =
           omega (arith, t .ensures .1 .0, z, i .1 .1 .0),
           (
             y ∙ i .1 .1 .1 .0,
-            λ st x l u v e. turned-more (a .slot) (a .q) (bridgeOf (a .s) (a .c) (now (a .missing)) (now (a .sent)) (now (a .owner)) (now (a .place)) st x l u v e) (now (a .area)) (c .before .before .before .before .before .before .before .before .before .before .before .before .before .shift-of .result .base) (c .before .before .before .before .before .before .before .before .before .before .before .before .before .shift-of .result .target) (c .before .before .before .before .before .before .before .before .before .before .before .before .before .shift-of .ensures .0) (c .before .before .before .before .before .before .before .before .before .before .before .before .before .shift-of .ensures .1) (bridgeOf (a .s) (c .before .before .before .before .before .before .before .before .before .before .loop .core) (c .before .before .before .before .before .before .before .before .before .before .loop .missing) (c .before .before .before .before .before .before .before .before .before .before .loop .sent) (c .before .before .before .before .before .before .before .before .before .before .loop .owner) (c .before .before .before .before .before .before .before .before .before .before .loop .place) st x l u v e) (bridgeOf (a .s) (t .result .core) (t .last .1 .0) (t .last .1 .1 .0) (t .last .1 .1 .1 .0) (t .last .1 .1 .1 .1 .0) st x l u v e) (c .before .before .before .before .before .before .before .before .before .before .loop .area) (t .last .1 .1 .1 .1 .1 .1 .1 .1 .1 .1 .1 .1 .0) (c .before .before .before .before .before .before .before .before .before .before .loop .at) (t .result .at) k (i .1 .1 .1 .1 st x l u v e) (t .ensures .0 (bridgeOf (a .s) (c .before .before .before .before .before .before .before .before .before .before .loop .core) (c .before .before .before .before .before .before .before .before .before .before .loop .missing) (c .before .before .before .before .before .before .before .before .before .before .loop .sent) (c .before .before .before .before .before .before .before .before .before .before .loop .owner) (c .before .before .before .before .before .before .before .before .before .before .loop .place) st x l u v e)) (t .ensures .1 .0) (t .ensures .1 .1),
+            λ st x l u v e. turned-more (a .slot) (a .q) (bridgeOf (a .s) (a .c) (now (a .missing)) (now (a .sent)) (now (a .owner)) (now (a .place)) st x l u v e) (now (a .area)) (c .before .before .before .before .before .before .before .before .before .before .before .before .before .shift-of .result .base) (c .before .before .before .before .before .before .before .before .before .before .before .before .before .shift-of .result .target) (c .before .before .before .before .before .before .before .before .before .before .before .before .before .shift-of .ensures .0) (c .before .before .before .before .before .before .before .before .before .before .before .before .before .shift-of .ensures .1) (bridgeOf (a .s) (c .before .before .before .before .before .before .before .before .before .before .loop .core) (c .before .before .before .before .before .before .before .before .before .before .loop .missing) (c .before .before .before .before .before .before .before .before .before .before .loop .sent) (c .before .before .before .before .before .before .before .before .before .before .loop .owner) (c .before .before .before .before .before .before .before .before .before .before .loop .place) st x l u v e) (bridgeOf (a .s) (t .result .core) (t .last .1 .0) (t .last .1 .1 .0) (t .last .1 .1 .1 .0) (t .last .1 .1 .1 .1 .0) st x l u v e) (c .before .before .before .before .before .before .before .before .before .before .loop .area) (t .last .1 .1 .1 .1 .1 .1 .1 .1 .1 .1 .1 .1 .0) (c .before .before .before .before .before .before .before .before .before .before .loop .at) (t .result .at) k (i .1 .1 .1 .1 st x l u v e) (opens (t .ensures .0) (bridgeOf (a .s) (c .before .before .before .before .before .before .before .before .before .before .loop .core) (c .before .before .before .before .before .before .before .before .before .before .loop .missing) (c .before .before .before .before .before .before .before .before .before .before .loop .sent) (c .before .before .before .before .before .before .before .before .before .before .loop .owner) (c .before .before .before .before .before .before .before .before .before .before .loop .place) st x l u v e)) (t .ensures .1 .0) (t .ensures .1 .1),
           ),
         ),
       ),

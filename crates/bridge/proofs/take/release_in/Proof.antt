@@ -6,12 +6,12 @@ use Rattle.bridge.proofs.take.release_in.Statement.{statement}
 use Rattle.bridge.proofs.take.release_in.Tie as tie
 use Rattle.bridge.proofs.take.release_in.Reads as reads
 use Rattle.bridge.proofs.take.release_in.Lts as lts
-use Rattle.bridge.proofs.answers.accepted_as.Reads as accepted-as-reads
-use Rattle.bridge.proofs.answers.refuse.Reads as refuse-reads
-use Rattle.bridge.proofs.answers.response_of.Reads as response-of-reads
-use Rattle.bridge.proofs.fresh.free_config.Reads as free-config-reads
-use Rattle.bridge.proofs.take.number_for.Reads as number-for-reads
-use Rattle.bridge.proofs.take.state_in.Reads as state-in-reads
+use Rattle.parts.proofs.answers.accepted_as.Reads as accepted-as-reads
+use Rattle.parts.proofs.answers.refuse.Reads as refuse-reads
+use Rattle.parts.proofs.answers.response_of.Reads as response-of-reads
+use Rattle.parts.proofs.access.free_config.Reads as free-config-reads
+use Rattle.parts.proofs.numbers.number_for.Reads as number-for-reads
+use Rattle.parts.proofs.numbers.state_in.Reads as state-in-reads
 use Rattle.common.proofs.index.Reads as index-reads
 
 -- src/take.rt:58:9

@@ -8,7 +8,7 @@ use Rattle.bridge.proofs.tick.expire_in.Statement.{statement}
 use Rattle.bridge.proofs.tick.expire_in.Tie as tie
 use Rattle.bridge.proofs.tick.expire_in.Reads as reads
 use Rattle.bridge.proofs.tick.expire_in.Lts as lts
-use Rattle.bridge.proofs.tick.is_old.Reads as is-old-reads
+use Rattle.parts.proofs.numbers.is_old.Reads as is-old-reads
 use Rattle.bridge.proofs.tick.time_out_in.Reads as time-out-in-reads
 
 -- src/tick.rt:109:15

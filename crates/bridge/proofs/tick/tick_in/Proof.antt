@@ -5,9 +5,9 @@ use Rattle.bridge.proofs.tick.tick_in.Statement.{statement}
 use Rattle.bridge.proofs.tick.tick_in.Tie as tie
 use Rattle.bridge.proofs.tick.tick_in.Reads as reads
 use Rattle.bridge.proofs.tick.tick_in.Lts as lts
-use Rattle.bridge.proofs.answers.plain_answer.Reads as plain-answer-reads
+use Rattle.parts.proofs.answers.plain_answer.Reads as plain-answer-reads
 use Rattle.bridge.proofs.tick.expire_all_in.Reads as expire-all-in-reads
-use Rattle.bridge.proofs.tick.next_tick.Reads as next-tick-reads
+use Rattle.parts.proofs.numbers.next_tick.Reads as next-tick-reads
 
 -- src/tick.rt:161:21
 plain-answer-requires : tie.Need-plain-answer-requires

@@ -5,15 +5,16 @@ use Rattle.bridge.specs.declared.Bridge.{Bridge}
 use Rattle.bridge.specs.State.{coreIn, tagsIn, slotsIn}
 use Rattle.bridge.specs.Completions.{held}
 use Rattle.bridge.specs.Ticks.{timedOut}
+use Rattle.bridge.proofs.Changes.{fails, closes, shuts}
 use borrow.Author.Needs.{needs}
 use Rattle.bridge.proofs.tick.time_out_in.Statement.{statement}
 use Rattle.bridge.proofs.tick.time_out_in.Tie as tie
 use Rattle.bridge.proofs.tick.time_out_in.Reads as reads
 use Rattle.bridge.proofs.tick.time_out_in.Lts as lts
-use Rattle.bridge.proofs.complete.close_piece_in.Reads as close-piece-in-reads
-use Rattle.bridge.proofs.complete.fail_in.Reads as fail-in-reads
-use Rattle.bridge.proofs.complete.shut_in.Reads as shut-in-reads
-use Rattle.bridge.proofs.tick.config_timeout.Reads as config-timeout-reads
+use Rattle.tables.proofs.slots.close_piece_in.Reads as close-piece-in-reads
+use Rattle.tables.proofs.slots.fail_in.Reads as fail-in-reads
+use Rattle.tables.proofs.tagged.shut_in.Reads as shut-in-reads
+use Rattle.parts.proofs.access.config_timeout.Reads as config-timeout-reads
 use Rattle.common.proofs.index.Reads as index-reads
 
 -- src/tick.rt:79:19
@@ -59,7 +60,7 @@ returns c = λ b.
     let x = (coreIn (c .before .before .before .before .before .before .before .before .before .before .before .before .before .before .before .before .before .args .c) (tagsIn (now (c .before .before .before .before .before .before .before .before .before .before .before .before .before .before .before .before .before .args .missing)) (b .sent) (now (c .before .before .before .before .before .before .before .before .before .before .before .before .before .before .before .before .before .args .owner)) (now (c .before .before .before .before .before .before .before .before .before .before .before .before .before .before .before .before .before .args .place)) (slotsIn (now (c .before .before .before .before .before .before .before .before .before .before .before .before .before .before .before .before .before .args .state)) (b .start) (now (c .before .before .before .before .before .before .before .before .before .before .before .before .before .before .before .before .before .args .size)) (now (c .before .before .before .before .before .before .before .before .before .before .before .before .before .before .before .before .before .args .pieces)) (now (c .before .before .before .before .before .before .before .before .before .before .before .before .before .before .before .before .before .args .fault)) (now (c .before .before .before .before .before .before .before .before .before .before .before .before .before .before .before .before .before .args .cause)) b))) in
     let y = coreIn (c .before .before .before .before .before .before .before .before .before .fail-in .result) (slotsIn (x .state) (x .start) (x .size) (x .pieces) (c .before .before .before .before .before .before .before .before .before .fail-in .last .1 .0) (c .before .before .before .before .before .before .before .before .before .fail-in .last .1 .1 .0) x) in
     let z = tagsIn (c .before .before .before .before .before .before .before .shut-in .last .0) (y .sent) (y .owner) (y .place) y in
-    rw (← c .before .before .before .before .before .before .before .before .before .before .before .before .before .before .index .ensures .0, lt-ltb _ _ (c .before .before .before .before .before .before .before .before .before .before .before .before .before .if1 .taken), ← c .before .before .before .before .before .before .before .before .before .fail-in .ensures x, ← c .before .before .before .before .before .before .before .shut-in .ensures y) (c .before .before .close-piece-in .ensures z)
+    rw (← c .before .before .before .before .before .before .before .before .before .before .before .before .before .before .index .ensures .0, lt-ltb _ _ (c .before .before .before .before .before .before .before .before .before .before .before .before .before .if1 .taken), ← fails (c .before .before .before .before .before .before .before .before .before .fail-in .ensures) x, ← shuts (c .before .before .before .before .before .before .before .shut-in .ensures) y) (closes (c .before .before .close-piece-in .ensures) z)
 
 -- src/tick.rt:86:5
 shut-in-requires-2 : tie.Need-shut-in-requires-2
@@ -74,7 +75,7 @@ returns-2 : tie.Need-returns-2
 unfolding timedOut
 returns-2 c = λ b.
     let x = (coreIn (c .before .before .before .before .before .before .before .args .c) (tagsIn (now (c .before .before .before .before .before .before .before .args .missing)) (b .sent) (now (c .before .before .before .before .before .before .before .args .owner)) (now (c .before .before .before .before .before .before .before .args .place)) (slotsIn (now (c .before .before .before .before .before .before .before .args .state)) (b .start) (now (c .before .before .before .before .before .before .before .args .size)) (now (c .before .before .before .before .before .before .before .args .pieces)) (now (c .before .before .before .before .before .before .before .args .fault)) (now (c .before .before .before .before .before .before .before .args .cause)) b))) in
-    rw (← c .before .before .before .before .index .ensures .0, le-ltb _ _ (c .before .before .before .if1 .left), ← c .config-timeout .ensures) (ap (λ (y : Bridge). held y (now (c .before .before .before .before .before .before .before .args .store))) (c .before .shut-in2 .ensures (coreIn (c .config-timeout .result) x)))
+    rw (← c .before .before .before .before .index .ensures .0, le-ltb _ _ (c .before .before .before .if1 .left), ← c .config-timeout .ensures) (ap (λ (y : Bridge). held y (now (c .before .before .before .before .before .before .before .args .store))) (shuts (c .before .shut-in2 .ensures) (coreIn (c .config-timeout .result) x)))
 
 pub time-out-in-spec : {M : Type 1} → statement M
 time-out-in-spec =

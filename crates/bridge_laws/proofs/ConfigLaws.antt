@@ -1,0 +1,178 @@
+-- Configuration accesses: accepted, refused, local and routed.
+use mathlib.Core.Path.{_≡_, refl, sym, ap, subst, _∙_}
+use mathlib.Core.Bool.{Bool, true, false, cond, not, _&&_}
+use mathlib.Core.List.{List, [], _∷_, _++_}
+use Prim.Native.Nat.{ℕ, _+_, _<_}
+use native.Mathlib.Omega.{arith}
+use borrow.Author.Tests.{le-ltb, eq-eqb, ne-eqb, eqb-true, eqb-false}
+use lib.ListN.{length, getD, set, take, length-append}
+use lib.Seq.{take-at, getD-set-other}
+use lib.Dec.{ltb, eqb}
+use Rattle.common.specs.Tests.{firstOf}
+use Rattle.tags.specs.Tags.{lowest, available}
+use Rattle.tags.proofs.Tags.{lowest-is, take-one-less}
+use Rattle.tlp.specs.declared.request.Request.{Request}
+use Rattle.tlp.specs.Request.{validRequest, targetBytes, requestBytes, readRequest}
+use Rattle.tlp.specs.Laws.{Address}
+use Rattle.tlp.proofs.Laws.{request-laws}
+use Rattle.ecam.specs.declared.Route.{Route}
+use Rattle.ecam.specs.declared.Route.the-variants.{OutOfRange, Local, Type0, Type1, NotRouted, DeviceNotZero}
+use Rattle.ecam.specs.Route.{numberOf}
+use Rattle.ecam.specs.Request.{configTarget, configRequest, dataBytes}
+use Rattle.ecam.proofs.Requests.{config-request-valid}
+use Rattle.parts.specs.declared.Core.{Core}
+use Rattle.bridge.specs.declared.Bridge.{Bridge}
+use Rattle.bridge.specs.declared.Answered.{Answered}
+use Rattle.bridge.specs.State.{tagCount, opened, coreIn, refusalChange, refusal, answered, refused, registersOf}
+use Rattle.bridge.specs.Memory.{areaSize, packet}
+use Rattle.bridge.specs.Config.{Access, routeOf, goesOut, configNumber, configRefusal, localCore, routedBridge, payloadOf, configBytes, configStep, configArea}
+use Rattle.bridge.specs.Take.{stateIn}
+use Rattle.bridge_laws.specs.ConfigLaws.{PassedAccepted, Refused, ConfigRefused, LocalSendsNothing, LocalReadKeeps, LocalReadFinishes, LocalWriteFinishes, Opens, RoutedOpens, Routed, requestOf, Packet, RoutedPacket}
+use Rattle.bridge.proofs.Configs.{passed, routed-step}
+
+-- ---- accepted
+
+pub passes : PassedAccepted
+unfolding configNumber
+passes c x room p =
+    rw (le-ltb room areaSize (p .long), eq-eqb (c .config .state) 0 (p .free), eq-eqb (numberOf x) 0 (p .routed)) (by (goesOut x) refl)
+  where
+    some : (n : ℕ) → 0 < n → n ≡ 0 → ⊥
+    some n h e = omega arith
+
+    by : (g : Bool) → goesOut x ≡ g → firstOf ((g && not (c .registers .link), 4) ∷ (g && eqb (available tagCount (c .free)) 0, 7) ∷ []) ≡ 0
+    by true e = rw (p .up e, ne-eqb (available tagCount (c .free)) 0 (some (available tagCount (c .free)) (p .tag e)))
+    by false e = refl
+
+-- ---- refused
+
+-- no number of the order changes anything
+kept : (d c : Core) (x : Route) (room : ℕ) → refusalChange (configNumber c x room) d ≡ d
+unfolding configNumber refusalChange
+kept d c x room =
+    by (ltb room areaSize) (not (eqb (c .config .state) 0)) (goesOut x && not (c .registers .link)) (goesOut x && eqb (available tagCount (c .free)) 0) x
+  where
+    last : (g t : Bool) → refusalChange (firstOf ((g, 4) ∷ (t, 7) ∷ [])) d ≡ d
+    last true t = refl
+    last false true = refl
+    last false false = refl
+
+    by : (p q g t : Bool) (x : Route)
+        → refusalChange (firstOf ((p, 8) ∷ (q, 5) ∷ (not (eqb (numberOf x) 0), numberOf x) ∷ (g, 4) ∷ (t, 7) ∷ [])) d ≡ d
+    by true q g t x = refl
+    by false true g t x = refl
+    by false false g t OutOfRange = refl
+    by false false g t (Local w) = last g t
+    by false false g t Type0 = last g t
+    by false false g t Type1 = last g t
+    by false false g t NotRouted = refl
+    by false false g t DeviceNotZero = refl
+
+refused-step : (b : Bridge) (a : Access) (room : ℕ) → (configRefusal b a room ≡ 0 → ⊥) → configStep b a room ≡ answered b (refusal (configRefusal b a room))
+unfolding configStep refused
+refused-step b a room h =
+    rw (ne-eqb _ _ h) (ap (λ (c : Core). answered (coreIn c b) (refusal (configRefusal b a room))) (kept (b .core) (b .core) (routeOf b a) room))
+
+pub config-refused : ConfigRefused
+unfolding configArea
+config-refused b a area h = record { step = refused-step b a (length area) h; bytes = rw (ne-eqb _ _ h) }
+
+-- ---- local
+
+pub local-sends-nothing : LocalSendsNothing
+local-sends-nothing b a w l = rw l
+
+pub local-read-finishes : LocalReadFinishes
+unfolding configStep localCore
+local-read-finishes b a w room l z e = rw (eq-eqb _ _ e, l, z)
+
+pub local-write-finishes : LocalWriteFinishes
+unfolding configStep localCore
+local-write-finishes b a w room l z e = rw (eq-eqb _ _ e, l, z)
+
+pub local-read-keeps : LocalReadKeeps
+local-read-keeps b a w room l z = by (eqb (configRefusal b a room) 0) refl
+  where
+    by : (x : Bool) → eqb (configRefusal b a room) 0 ≡ x → registersOf (configStep b a room .bridge) ≡ registersOf b
+    by true e = ap registersOf (local-read-finishes b a w room l z (eqb-true _ _ e))
+    by false e = ap (λ (r : Answered). registersOf (r .bridge)) (refused-step b a room (eqb-false _ _ e))
+
+-- ---- routed
+
+header-size : (x : Route) (o : ℕ) (write : Bool) (s requester tag : ℕ) → length (requestBytes (configRequest x o write s requester tag)) ≡ 12
+unfolding requestBytes targetBytes configRequest configTarget
+header-size OutOfRange o write s requester tag = refl
+header-size (Local w) o write s requester tag = refl
+header-size Type0 o write s requester tag = refl
+header-size Type1 o write s requester tag = refl
+header-size NotRouted o write s requester tag = refl
+header-size DeviceNotZero o write s requester tag = refl
+
+in-address : (x : Route) (o : ℕ) (write : Bool) (s requester tag : ℕ) → Address (configRequest x o write s requester tag .target)
+unfolding configRequest configTarget
+in-address OutOfRange o write s requester tag = tt
+in-address (Local w) o write s requester tag = tt
+in-address Type0 o write s requester tag = tt
+in-address Type1 o write s requester tag = tt
+in-address NotRouted o write s requester tag = tt
+in-address DeviceNotZero o write s requester tag = tt
+
+payload-size : (write : Bool) (word : ℕ) → 12 + length (payloadOf write word) ≡ cond write 16 12
+unfolding payloadOf dataBytes
+payload-size true word = refl
+payload-size false word = refl
+
+not-eight : (k : ℕ) → k < 8 → k ≡ 8 → ⊥
+not-eight k h e = omega arith
+
+opens : (b : Bridge) (a : Access) → 0 < available tagCount (b .core .free) → Opens b (routedBridge b a)
+unfolding routedBridge opened stateIn
+opens b a h =
+    record {
+      registers = refl;
+      ticks = refl;
+      fewer = take-one-less tagCount (b .core .free) (lowest tagCount (b .core .free)) (lowest-is tagCount (b .core .free) h .tag);
+      others = λ t n. getD-set-other (b .missing) (lowest tagCount (b .core .free)) t 4 0 n;
+      slots = λ k l. rw (ne-eqb k 8 (not-eight k l));
+      config = refl;
+    }
+
+pub routed-opens : RoutedOpens
+routed-opens b a room e g =
+    let s = routed-step b a (routeOf b a) (b .settings .bits) (b .settings .requester) refl refl refl g room (configRefusal b a room) refl e in
+    subst (Opens b) (sym (ap (λ (r : Answered). r .bridge) s))
+    (opens b a (passed (b .core) (routeOf b a) room e .tag g))
+
+module _ (b : Bridge) (a : Access) (room : ℕ) (r : Routed b a room) where
+  tag-fits : lowest tagCount (b .core .free) < 256
+  tag-fits =
+      let t = lowest-is tagCount (b .core .free) (passed (b .core) (routeOf b a) room (r .accepted) .tag (r .out)) .tag .below in
+      omega (arith, t)
+
+  valid : validRequest (requestOf b a) ≡ true
+  valid =
+      config-request-valid (routeOf b a) (a .offset) (a .write) (a .strobes) (b .settings .requester) (lowest tagCount (b .core .free))
+      (r .requester) tag-fits
+
+  sent : configBytes b a ≡ requestBytes (requestOf b a) ++ payloadOf (a .write) (a .word)
+  unfolding packet
+  sent = rw (r .out, valid)
+
+  twelve : length (requestBytes (requestOf b a)) ≡ 12
+  twelve = header-size (routeOf b a) (a .offset) (a .write) (a .strobes) (b .settings .requester) (lowest tagCount (b .core .free))
+
+pub routed-packet : RoutedPacket
+routed-packet b a room r =
+    record {
+      bytes = sent b a room r;
+      size =
+          ap length (sent b a room r)
+          ∙ length-append (requestBytes (requestOf b a)) (payloadOf (a .write) (a .word))
+          ∙ ap (λ (n : ℕ). n + length (payloadOf (a .write) (a .word))) (twelve b a room r)
+          ∙ payload-size (a .write) (a .word);
+      header =
+          ap (λ (s : List ℕ). readRequest (take 12 s)) (sent b a room r)
+          ∙ ap readRequest (take-at (requestBytes (requestOf b a)) (payloadOf (a .write) (a .word)) 12 (twelve b a room r))
+          ∙ request-laws .reads-back (requestOf b a)
+          (valid b a room r, in-address (routeOf b a) (a .offset) (a .write) (a .strobes) (b .settings .requester) (lowest tagCount (b .core .free)));
+    }

@@ -1,0 +1,61 @@
+-- The ten starred examples hold, by computing.
+use mathlib.Core.Path.{refl}
+use Rattle.bits.specs.Bits.{bit, isSet, setBit, clearBit}
+use Rattle.tags.specs.Tags.{freeFrom}
+use Rattle.tlp.specs.Request.{validTarget, validRequest, formatType, targetBytes, requestBytes}
+use Rattle.address.specs.Windows.{holds, firstFrom, windowOf, translated}
+use Rattle.burst.specs.Bursts.{endFrom, burstRight, burstNumber, lengthOf}
+use Rattle.burst.specs.Pieces.{pieceCount, pieceFirst, pieceEnd, pieceAt}
+use Rattle.burst.specs.Words.{wordAddress, wordCount, firstEnables, lastEnables}
+use Rattle.burst.proofs.Examples as burst
+use Rattle.ecam.specs.Registers.{fresh, raised}
+use Rattle.ecam.specs.Route.{route}
+use Rattle.ecam.specs.Request.{configRequest, configTarget, configAddress}
+use Rattle.ecam.proofs.Examples as ecam
+use Rattle.bridge.specs.State.{raisedCore, opened, shut, freeSlotFrom, accepted, refused, refusal, freshCore, freshBridge}
+use Rattle.bridge.specs.Memory.{pcieOf, memoryRequest, packet, readRefusal, claimed, readTo, readSent, readStep}
+use Rattle.bridge.specs.Completions.{faulted, failed, finished, pieceClosed}
+use Rattle.bridge.specs.Ticks.{timedOut, expire, expireTo, ticked, linked}
+use Rattle.bridge.specs.Config.{configNumber, payloadOf}
+use Rattle.bridge_laws.specs.Examples.{W1, W10, Played, Starred}
+use Rattle.bridge_laws.proofs.CompletionExamples.{w3-completed}
+
+w1 : W1
+unfolding bit isSet setBit clearBit freeFrom validTarget validRequest formatType targetBytes requestBytes holds firstFrom windowOf translated endFrom burstRight burstNumber lengthOf pieceCount pieceFirst pieceEnd pieceAt wordAddress wordCount firstEnables lastEnables fresh raised raisedCore opened freeSlotFrom accepted refused refusal freshCore freshBridge pcieOf memoryRequest packet readRefusal claimed readTo readSent readStep linked
+w1 = record { number = refl; bytes = refl }
+
+w10 : W10
+unfolding bit isSet setBit clearBit freeFrom validTarget validRequest formatType targetBytes requestBytes holds firstFrom windowOf translated endFrom burstRight burstNumber lengthOf pieceCount pieceFirst pieceEnd pieceAt wordAddress wordCount firstEnables lastEnables fresh raised raisedCore opened shut freeSlotFrom accepted refused refusal freshCore freshBridge pcieOf memoryRequest packet readRefusal claimed readTo readSent readStep linked faulted failed finished pieceClosed timedOut expire expireTo ticked
+w10 = record { zero = refl; stays = refl; one = refl; closed = refl; finished = refl }
+
+played : Played
+unfolding bit isSet setBit clearBit freeFrom validTarget validRequest formatType targetBytes requestBytes holds firstFrom windowOf translated endFrom burstRight burstNumber lengthOf pieceCount pieceFirst pieceEnd pieceAt wordAddress wordCount firstEnables lastEnables fresh raised raisedCore opened freeSlotFrom accepted refused refusal freshCore freshBridge pcieOf memoryRequest packet readRefusal claimed readTo readSent readStep linked route configRequest configTarget configAddress configNumber payloadOf
+played =
+    record {
+      w2 = refl;
+      w3 = refl;
+      w4 = refl;
+      w5 = refl;
+      w6 = refl;
+      w7 = refl;
+      w8 = refl;
+      w9 = refl;
+      crossed = refl;
+    }
+
+pub starred : Starred
+starred =
+    record {
+      w1 = w1;
+      w2 = burst.w2;
+      w3 = burst.w3;
+      w4 = burst.w4;
+      w5 = burst.w5;
+      w6 = burst.w6;
+      w7 = ecam.w7;
+      w8 = ecam.w8;
+      w9 = ecam.w9;
+      w10 = w10;
+      played = played;
+      answered = w3-completed;
+    }

@@ -1,0 +1,20 @@
+-- A fresh bridge, configuration accesses, taking an answer.
+pub mod FreshLaws
+pub mod ConfigLaws
+pub mod TakeLaws
+-- Memory reads and writes.
+pub mod Behind
+pub mod Kept
+pub mod Sends
+pub mod Stored
+pub mod Asked
+pub mod MemoryExamples
+-- Completions, ticks, the link.
+pub mod Keeping
+pub mod Finished
+pub mod Goodness
+pub mod Counting
+pub mod Coming
+pub mod TickLaws
+pub mod CompletionExamples
+pub mod Examples

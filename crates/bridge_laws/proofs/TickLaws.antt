@@ -1,0 +1,203 @@
+-- Ticks and the link leave alone what is not open.
+use Prim.Native.Nat.{ℕ, zero, suc, _+_, _*_, _≤_, _<_}
+use mathlib.Core.Path.{_≡_, refl, sym, ap, _∙_}
+use mathlib.Core.Bool.{Bool, true, false, not, _&&_}
+use mathlib.Core.Logic.{_≢_}
+use mathlib.Core.List.{List, [], _∷_}
+use native.Mathlib.Decide.{ℕ-discrete}
+use native.Mathlib.Omega.{arith}
+use lib.ListN.{length, getD, set}
+use lib.Seq.{getD-set-other}
+use lib.Dec.{ltb, leb, eqb}
+use borrow.Author.Tests.{ltb-true, lt-ltb, ltb-false, eqb-true}
+use Rattle.common.proofs.Tests.{and-left}
+use Rattle.verdict.specs.declared.Cause.the-variants.{Timeout}
+use Rattle.bridge.specs.declared.Bridge.{Bridge}
+use Rattle.parts.specs.declared.Core.{Core}
+use Rattle.bridge.specs.State.{tagCount, withConfig, withTicks, raisedCore, coreIn, tagsIn, missingOf, placeOf, ownerOf, isOpen, shut, slverr}
+use Rattle.bridge.specs.Completions.{storeSize, Held, held, zeroed, sizeOf, failed, finished, pieceClosed, configDone}
+use Rattle.bridge.specs.Ticks.{nextTick, ageOf, isOld, timedOut, expire, expireTo, ticked, linkIn, linkLost, dropSlot, dropSlots, linked}
+use Rattle.bridge_laws.specs.CompletionLaws.{Kept, OnlyHere, SlotSame}
+use Rattle.bridge_laws.specs.TickLaws.{RefusedTick, RefusedLink, TickStays, LinkStays}
+use Rattle.bridge_laws.proofs.Keeping.{only-core, then, failed-only, shut-only, kept-then, kept-bridge, piece-kept, zeroed-only}
+use Rattle.bridge_laws.proofs.Finished.{apart, kept-slot}
+
+pub refused-tick : RefusedTick
+unfolding ticked
+refused-tick h l = rw (lt-ltb _ _ l)
+
+pub refused-link : RefusedLink
+unfolding linked
+refused-link up h l = rw (lt-ltb _ _ l)
+
+-- ---- slots that stay
+
+slot-same : (j : ℕ) (h : Held) → SlotSame j h h
+slot-same j h =
+    record { state = refl; start = refl; size = refl; pieces = refl; fault = refl; cause = refl; bytes = λ i l. refl }
+
+-- whatever the core and the tables by tag become
+slot-core : (j : ℕ) (h : Held) (c : Core) (m t o p : List ℕ) → SlotSame j h (held (coreIn c (tagsIn m t o p (h .bridge))) (h .store))
+slot-core j h c m t o p =
+    record { state = refl; start = refl; size = refl; pieces = refl; fault = refl; cause = refl; bytes = λ i l. refl }
+
+slot-then : (j : ℕ) (h x y : Held) → SlotSame j h x → SlotSame j x y → SlotSame j h y
+slot-then j h x y p q =
+    record {
+      state = q .state ∙ p .state;
+      start = q .start ∙ p .start;
+      size = q .size ∙ p .size;
+      pieces = q .pieces ∙ p .pieces;
+      fault = q .fault ∙ p .fault;
+      cause = q .cause ∙ p .cause;
+      bytes = λ i l. q .bytes i l ∙ p .bytes i l;
+    }
+
+-- ---- one request that times out
+
+config-core : (k t : ℕ) (b : Bridge) → OnlyHere k t b (coreIn (raisedCore 8 (withConfig (configDone (b .core .config) slverr 0) (b .core))) b)
+unfolding raisedCore
+config-core k t b = only-core k t b (raisedCore 8 (withConfig (configDone (b .core .config) slverr 0) (b .core))) refl
+
+timed-kept : (h : Held) (t : ℕ) → storeSize ≤ length (h .store) → (z : Bool) → ltb (ownerOf (h .bridge) t) 8 ≡ z → Kept (ownerOf (h .bridge) t) t h (timedOut t h)
+unfolding timedOut
+timed-kept h t l true z =
+    let k = ownerOf (h .bridge) t in
+    let b = failed k (placeOf (h .bridge) t) Timeout (h .bridge) in
+    let x = held (shut t b) (h .store) in
+    rw z
+    (kept-then k t h x (pieceClosed k x)
+    (kept-bridge k t h (shut t b) (then k t (h .bridge) b (shut t b) (failed-only k t (h .bridge) (placeOf (h .bridge) t) Timeout) (shut-only k t b)))
+    (piece-kept k t (ltb-true _ _ z) x l))
+timed-kept h t l false z =
+    let k = ownerOf (h .bridge) t in
+    let b = coreIn (raisedCore 8 (withConfig (configDone (h .bridge .core .config) slverr 0) (h .bridge .core))) (h .bridge) in
+    rw z (kept-bridge k t h (shut t b) (then k t (h .bridge) b (shut t b) (config-core k t (h .bridge)) (shut-only k t b)))
+
+-- its tag has nothing missing any more
+set-zero : (l : List ℕ) (t : ℕ) → getD (set l t 0) t 0 ≡ 0
+set-zero [] t = refl
+set-zero (x ∷ xs) zero = refl
+set-zero (x ∷ xs) (suc t) = set-zero xs t
+
+closed-missing : (k t : ℕ) (h : Held) (z : Bool) → leb (getD (h .bridge .pieces) k 0) 1 ≡ z → missingOf (pieceClosed k h .bridge) t ≡ missingOf (h .bridge) t
+unfolding pieceClosed finished
+closed-missing k t h true z = rw z
+closed-missing k t h false z = rw z
+
+timed-missing : (h : Held) (t : ℕ) (z : Bool) → ltb (ownerOf (h .bridge) t) 8 ≡ z → missingOf (timedOut t h .bridge) t ≡ 0
+unfolding timedOut shut
+timed-missing h t true z =
+    let k = ownerOf (h .bridge) t in
+    let b = failed k (placeOf (h .bridge) t) Timeout (h .bridge) in
+    let x = held (shut t b) (h .store) in
+    rw z (closed-missing k t x (leb (getD (x .bridge .pieces) k 0) 1) refl ∙ set-zero (b .missing) t)
+timed-missing h t false z = rw z (set-zero (h .bridge .missing) t)
+
+-- ---- a tick
+
+-- no open tag names slot j
+abbrev Apart : ℕ → Bridge → Type 0
+Apart j b = (t : ℕ) → isOpen (missingOf b t) (placeOf b t) ≡ true → ownerOf b t ≢ j
+
+record Stays (j : ℕ) (h x : Held) : Type 0 where
+  slot : SlotSame j h x
+  apart : Apart j (x .bridge)
+  room : length (x .store) ≡ length (h .store)
+
+not-open : (p : ℕ) → isOpen 0 p ≡ true → _≡_ {A = ℕ} 0 1
+not-open p e = cc
+
+no-zero : _≡_ {A = ℕ} 0 1 → ⊥
+no-zero z = omega arith
+
+timed-apart : (h : Held) (t j : ℕ) → storeSize ≤ length (h .store) → Apart j (h .bridge) → Apart j (timedOut t h .bridge)
+timed-apart h t j l f u e = go (ℕ-discrete u t)
+  where
+    p : Kept (ownerOf (h .bridge) t) t h (timedOut t h)
+    p = timed-kept h t l (ltb (ownerOf (h .bridge) t) 8) refl
+
+    go : Dec (u ≡ t) → ownerOf (timedOut t h .bridge) u ≢ j
+    go (yes w) = λ o. absurd (no-zero (not-open (placeOf (timedOut t h .bridge) u) (rw (ap (λ (v : ℕ). missingOf (timedOut t h .bridge) v) w ∙ timed-missing h t (ltb (ownerOf (h .bridge) t) 8) refl) at e)))
+    go (no w) = λ o. f u (rw (p .here .missing u w, p .here .place u w) at e) (sym (ap (λ (x : List ℕ). getD x u 0) (p .here .owner)) ∙ o)
+
+expire-stays : (h : Held) (t j : ℕ) → storeSize ≤ length (h .store) → Apart j (h .bridge) → (z : Bool) → isOld (h .bridge) t ≡ z → Stays j h (expire h t)
+unfolding expire
+expire-stays h t j l f true z =
+    let p = timed-kept h t l (ltb (ownerOf (h .bridge) t) 8) refl in
+    let o = and-left (isOpen (missingOf (h .bridge) t) (placeOf (h .bridge) t)) (eqb (ageOf (h .bridge .core .ticks) (getD (h .bridge .sent) t 0)) (h .bridge .settings .limit)) z in
+    rw z
+    (record {
+      slot = kept-slot j (ownerOf (h .bridge) t) t h (timedOut t h) (λ e. f t o (sym e)) p;
+      apart = timed-apart h t j l f;
+      room = p .store .room;
+    })
+expire-stays h t j l f false z = rw z (record { slot = slot-same j h; apart = f; room = refl })
+
+expire-all : (h : Held) (j n : ℕ) → storeSize ≤ length (h .store) → Apart j (h .bridge) → Stays j h (expireTo h n)
+unfolding expireTo
+expire-all h j zero l f = record { slot = slot-same j h; apart = f; room = refl }
+expire-all h j (suc n) l f =
+    let p = expire-all h j n l f in
+    let x = expireTo h n in
+    let q = expire-stays x n j (rw (p .room) l) (p .apart) (isOld (x .bridge) n) refl in
+    record { slot = slot-then j h x (expire x n) (p .slot) (q .slot); apart = q .apart; room = q .room ∙ p .room }
+
+tick-by : (h : Held) (j : ℕ) → Apart j (h .bridge) → (z : Bool) → ltb (length (h .store)) storeSize ≡ z → SlotSame j h (ticked h)
+unfolding ticked
+tick-by h j f true z = rw z (slot-same j h)
+tick-by h j f false z =
+    let x = held (coreIn (withTicks (nextTick (h .bridge .core .ticks)) (h .bridge .core)) (h .bridge)) (h .store) in
+    let p = expire-all x j tagCount (ltb-false _ _ z) f in
+    rw z (slot-then j h x (expireTo x tagCount) (slot-core j h (x .bridge .core) (h .bridge .missing) (h .bridge .sent) (h .bridge .owner) (h .bridge .place)) (p .slot))
+
+pub tick-stays : TickStays
+tick-stays h j f = tick-by h j f (ltb (length (h .store)) storeSize) refl
+
+-- ---- the link
+
+record Left (j : ℕ) (h x : Held) : Type 0 where
+  slot : SlotSame j h x
+  room : length (x .store) ≡ length (h .store)
+
+drop-left : (h : Held) (k j : ℕ) → k < 8 → storeSize ≤ length (h .store) → getD (h .bridge .state) j 0 ≢ 1 → (z : Bool) → eqb (getD (h .bridge .state) k 0) 1 ≡ z → Left j h (dropSlot h k)
+unfolding dropSlot
+drop-left h k j small l o true z =
+    let n : j ≢ k = λ e. o (ap (λ (i : ℕ). getD (h .bridge .state) i 0) e ∙ eqb-true _ _ z) in
+    let b = zeroed-only k (sizeOf (h .bridge) k) (h .store) small (omega arith) l in
+    rw z
+    (record {
+      slot =
+          record {
+            state = getD-set-other (h .bridge .state) k j 2 0 n;
+            start = refl;
+            size = refl;
+            pieces = getD-set-other (h .bridge .pieces) k j 0 0 n;
+            fault = refl;
+            cause = getD-set-other (h .bridge .cause) k j slverr 0 n;
+            bytes = λ i s. b .bytes (4096 * j + i) (apart j k i n s (ltb j k) refl);
+          };
+      room = b .room;
+    })
+drop-left h k j small l o false z = rw z (record { slot = slot-same j h; room = refl })
+
+drops-left : (h : Held) (j n : ℕ) → n ≤ 8 → storeSize ≤ length (h .store) → getD (h .bridge .state) j 0 ≢ 1 → Left j h (dropSlots h n)
+unfolding dropSlots
+drops-left h j zero m l o = record { slot = slot-same j h; room = refl }
+drops-left h j (suc n) m l o =
+    let p = drops-left h j n (omega arith) l o in
+    let x = dropSlots h n in
+    let q = drop-left x n j m (rw (p .room) l) (λ e. o (sym (p .slot .state) ∙ e)) (eqb (getD (x .bridge .state) n 0) 1) refl in
+    record { slot = slot-then j h x (dropSlot x n) (p .slot) (q .slot); room = q .room ∙ p .room }
+
+link-by : (up : Bool) (h : Held) (j : ℕ) → getD (h .bridge .state) j 0 ≢ 1 → (z y : Bool) → ltb (length (h .store)) storeSize ≡ z → not up && h .bridge .core .registers .link ≡ y → SlotSame j h (linked up h)
+unfolding linked linkLost
+link-by up h j o true y z w = rw z (slot-same j h)
+link-by up h j o false true z w =
+    let x = held (linkLost (h .bridge)) (h .store) in
+    rw (z, w) (slot-then j h x (dropSlots x 8) (slot-core j h (x .bridge .core) (x .bridge .missing) (h .bridge .sent) (h .bridge .owner) (h .bridge .place)) (drops-left x j 8 (omega arith) (ltb-false _ _ z) o .slot))
+link-by up h j o false false z w =
+    rw (z, w) (slot-core j h (linkIn up (h .bridge .core)) (h .bridge .missing) (h .bridge .sent) (h .bridge .owner) (h .bridge .place))
+
+pub link-stays : LinkStays
+link-stays up h j o = link-by up h j o (ltb (length (h .store)) storeSize) (not up && h .bridge .core .registers .link) refl refl

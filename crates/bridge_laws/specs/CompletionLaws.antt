@@ -1,0 +1,159 @@
+-- What the definitions of completions promise together.
+use Prim.Native.Nat.{ℕ, _+_, _-_, _*_, _%_, _≤_, _<_}
+use mathlib.Core.Path.{_≡_}
+use mathlib.Core.Logic.{_⊎_, _≢_}
+use mathlib.Core.List.{List}
+use mathlib.Core.Bool.{true, false, cond}
+use lib.ListN.{length, getD, drop}
+use lib.Dec.{eqb}
+use Rattle.tlp.specs.declared.completion.Completion.{Completion}
+use Rattle.tlp.specs.declared.completion.CompletionRead.the-variants.{Header, Malformed}
+use Rattle.bridge.specs.declared.Bridge.{Bridge}
+use Rattle.verdict.specs.declared.Verdict.{Verdict}
+use Rattle.verdict.specs.declared.Verdict.the-variants.{Unexpected, Good, Poisoned}
+use Rattle.bridge.specs.State.{raise, missingOf, placeOf, ownerOf, isOpen}
+use Rattle.bridge.specs.Verdict.{useful, memoryVerdict, configVerdict}
+use Rattle.bridge.specs.Completions.{storeSize, Held, held, memoryCompleted, configCompleted, nextAddress, verdictOf, completionOf, isUnexpected, completeRefusal, completed}
+
+-- ---- what a completion leaves as it is
+
+-- two lists are the same but at one place
+abbrev pub Elsewhere : ℕ → List ℕ → List ℕ → Type 0
+Elsewhere t l m = (u : ℕ) → u ≢ t → getD m u 0 ≡ getD l u 0
+
+-- a byte of the store that is none of slot k's
+abbrev pub Outside : ℕ → ℕ → Type 0
+Outside k i = (i < 4096 * k) ⊎ (4096 * k + 4096 ≤ i)
+
+-- two bridges are the same but for tag t, slot k, the registers, the free tags and the configuration slot
+pub record OnlyHere (k t : ℕ) (b x : Bridge) : Type 0 where
+  pub settings : x .settings ≡ b .settings
+  pub ticks : x .core .ticks ≡ b .core .ticks
+  pub sent : x .sent ≡ b .sent
+  pub owner : x .owner ≡ b .owner
+  pub start : x .start ≡ b .start
+  pub size : x .size ≡ b .size
+  pub missing : Elsewhere t (b .missing) (x .missing)
+  pub place : Elsewhere t (b .place) (x .place)
+  pub state : Elsewhere k (b .state) (x .state)
+  pub pieces : Elsewhere k (b .pieces) (x .pieces)
+  pub fault : Elsewhere k (b .fault) (x .fault)
+  pub cause : Elsewhere k (b .cause) (x .cause)
+
+-- two stores are as long as each other, and the same but for slot k's bytes
+pub record BytesOnly (k : ℕ) (s x : List ℕ) : Type 0 where
+  pub room : length x ≡ length s
+  pub bytes : (i : ℕ) → Outside k i → getD x i 0 ≡ getD s i 0
+
+pub record Kept (k t : ℕ) (h x : Held) : Type 0 where
+  pub here : OnlyHere k t (h .bridge) (x .bridge)
+  pub store : BytesOnly k (h .store) (x .store)
+
+-- a completion touches its own tag and its own slot alone: every other slot keeps its state, its response and its bytes
+abbrev pub OwnSlotOnly : Type 0
+OwnSlotOnly =
+    (h : Held) (s : List ℕ) (c : Completion)
+    → completionOf s ≡ Header c
+    → Kept (ownerOf (h .bridge) (c .tag)) (c .tag) h (completed h s)
+
+-- a malformed one changes nothing
+abbrev pub MalformedKeeps : Type 0
+MalformedKeeps = (h : Held) (s : List ℕ) → completionOf s ≡ Malformed → completed h s ≡ h
+
+-- a refused one sets bit 21 where it is not expected, and changes nothing else
+abbrev pub RefusedKeeps : Type 0
+RefusedKeeps =
+    (h : Held) (s : List ℕ)
+    → completeRefusal (h .bridge) (length (h .store)) s ≢ 0
+    → completed h s
+    ≡ cond (eqb (completeRefusal (h .bridge) (length (h .store)) s) 13) (held (raise 21 (h .bridge)) (h .store)) h
+
+-- an accepted one has a header, and its tag is open
+pub record Accepted (b : Bridge) (s : List ℕ) : Type 0 where
+  pub header : Completion
+  pub reads : completionOf s ≡ Header header
+  pub expected : isUnexpected (verdictOf b header) ≡ false
+  pub opened : isOpen (missingOf b (header .tag)) (placeOf b (header .tag)) ≡ true
+
+abbrev pub AcceptedIsOpen : Type 0
+AcceptedIsOpen = (b : Bridge) (room : ℕ) (s : List ℕ) → completeRefusal b room s ≡ 0 → Accepted b s
+
+-- slot j's parts and its 4,096 bytes are the same
+pub record SlotSame (j : ℕ) (h x : Held) : Type 0 where
+  pub state : getD (x .bridge .state) j 0 ≡ getD (h .bridge .state) j 0
+  pub start : getD (x .bridge .start) j 0 ≡ getD (h .bridge .start) j 0
+  pub size : getD (x .bridge .size) j 0 ≡ getD (h .bridge .size) j 0
+  pub pieces : getD (x .bridge .pieces) j 0 ≡ getD (h .bridge .pieces) j 0
+  pub fault : getD (x .bridge .fault) j 0 ≡ getD (h .bridge .fault) j 0
+  pub cause : getD (x .bridge .cause) j 0 ≡ getD (h .bridge .cause) j 0
+  pub bytes : (i : ℕ) → i < 4096 → getD (x .store) (4096 * j + i) 0 ≡ getD (h .store) (4096 * j + i) 0
+
+-- a slot that no open tag names, as a finished one, stays as it is under every completion
+abbrev pub FinishedStays : Type 0
+FinishedStays =
+    (h : Held) (s : List ℕ) (j : ℕ)
+    → ((t : ℕ) → isOpen (missingOf (h .bridge) t) (placeOf (h .bridge) t) ≡ true → ownerOf (h .bridge) t ≢ j)
+    → SlotSame j h (completed h s)
+
+-- ---- when data is good
+
+-- 'A completion is good when it is expected, has status 0 and EP 0', for a memory read
+pub record IsGood (c : Completion) (missing next : ℕ) : Type 0 where
+  pub status : c .status ≡ 0
+  pub poisoned : c .poisoned ≡ false
+  pub payload : c .payload ≡ true
+  pub count : c .count ≡ missing
+  pub lower : c .lower ≡ next % 128
+  pub length : 4 * c .length < c .lower % 4 + missing + 4
+
+-- exactly then, and with its useful bytes
+abbrev pub GoodExactly : Type 0
+GoodExactly =
+    (c : Completion) (missing next : ℕ)
+    → ((n : ℕ) → memoryVerdict c missing next ≡ Good n → IsGood c missing next × (n ≡ useful c missing))
+    × (IsGood c missing next → memoryVerdict c missing next ≡ Good (useful c missing))
+
+-- n useful bytes count down the missing ones of their tag, good or poisoned, and move its place on
+abbrev pub CountsDown : Type 0
+CountsDown =
+    (h : Held) (t k skip n : ℕ) (payload : List ℕ)
+    → t < length (h .bridge .missing)
+    → t < length (h .bridge .place)
+    → (v : Verdict)
+    → (v ≡ Good n) ⊎ (v ≡ Poisoned n)
+    → (missingOf (memoryCompleted h t k skip payload v .bridge) t ≡ missingOf (h .bridge) t - n)
+    × (placeOf (memoryCompleted h t k skip payload v .bridge) t ≡ placeOf (h .bridge) t + n)
+
+-- ---- what can come of a completion
+
+-- the bridge and store after it, and its number: one case a row, with the tests that lead to it
+pub data Came (h : Held) (s : List ℕ) : Held → ℕ → Type 0 where
+  short : length (h .store) < storeSize → Came h s h 8
+  malformed : storeSize ≤ length (h .store) → completionOf s ≡ Malformed → Came h s h 12
+  lost : (c : Completion)
+      → storeSize ≤ length (h .store)
+      → completionOf s ≡ Header c
+      → verdictOf (h .bridge) c ≡ Unexpected
+      → Came h s (held (raise 21 (h .bridge)) (h .store)) 13
+  memory : (c : Completion) (v : Verdict)
+      → storeSize ≤ length (h .store)
+      → completionOf s ≡ Header c
+      → c .requester ≡ h .bridge .settings .requester
+      → isOpen (missingOf (h .bridge) (c .tag)) (placeOf (h .bridge) (c .tag)) ≡ true
+      → ownerOf (h .bridge) (c .tag) < 8
+      → memoryVerdict c (missingOf (h .bridge) (c .tag)) (nextAddress (h .bridge) (c .tag)) ≡ v
+      → isUnexpected v ≡ false
+      → Came h s (memoryCompleted h (c .tag) (ownerOf (h .bridge) (c .tag)) (c .lower % 4) (drop 12 s) v) 0
+  config : (c : Completion) (v : Verdict)
+      → storeSize ≤ length (h .store)
+      → completionOf s ≡ Header c
+      → c .requester ≡ h .bridge .settings .requester
+      → isOpen (missingOf (h .bridge) (c .tag)) (placeOf (h .bridge) (c .tag)) ≡ true
+      → 8 ≤ ownerOf (h .bridge) (c .tag)
+      → configVerdict c (h .bridge .core .config .write) ≡ v
+      → isUnexpected v ≡ false
+      → Came h s (held (configCompleted (h .bridge) (c .tag) (drop 12 s) v) (h .store)) 0
+
+-- there is no other case
+abbrev pub CameOneWay : Type 0
+CameOneWay = (h : Held) (s : List ℕ) → Came h s (completed h s) (completeRefusal (h .bridge) (length (h .store)) s)

@@ -1,0 +1,107 @@
+-- The worked examples of document 01: the ten starred ones, as facts about the definitions.
+use Prim.Native.Nat.{ℕ, _^_, _-_}
+use mathlib.Core.Path.{_≡_}
+use mathlib.Core.List.{List, [], _∷_, map}
+use mathlib.Core.Bool.{true, false}
+use lib.ListN.{getD, replicate}
+use Rattle.address.specs.declared.Settings.{Settings}
+use Rattle.address.specs.Settings.{exampleSettings, exampleWindows}
+use Rattle.burst.specs.Examples as burst
+use Rattle.ecam.specs.Examples as ecam
+use Rattle.bridge.specs.declared.Bridge.{Bridge}
+use Rattle.bridge.specs.State.{withRegisters, withTicks, coreIn, freshBridge, missingOf}
+use Rattle.bridge.specs.Memory.{areaSize, readRefusal, readStep, readBytes}
+use Rattle.bridge.specs.Config.{Access, accessOf, configRefusal, configBytes}
+use Rattle.bridge_laws.specs.CompletionExamples.{W3Completed}
+use Rattle.bridge.specs.Completions.{storeSize, Held, held}
+use Rattle.bridge.specs.Ticks.{withLink, linked, ticked}
+
+-- a store of zeros
+abbrev pub emptyStore : List ℕ
+emptyStore = replicate storeSize 0
+
+-- a fresh bridge whose link has come up
+abbrev pub upBridge : Settings → Bridge
+upBridge s = linked true (held (freshBridge s) emptyStore) .bridge
+
+-- W1: 12340ABC, z 2, 1 beat, read, tag 0: 00 00 00 01 00 00 00 0F 56 71 0A BC
+pub record W1 : Type 0 where
+  pub number : readStep (upBridge exampleSettings) (burst.incr 0x12340ABC 2 1) areaSize .answer .number ≡ 0
+  pub bytes :
+      readBytes (upBridge exampleSettings) (burst.incr 0x12340ABC 2 1)
+      ≡ 0x00 ∷ 0x00 ∷ 0x00 ∷ 0x01 ∷ 0x00 ∷ 0x00 ∷ 0x00 ∷ 0x0F ∷ 0x56 ∷ 0x71 ∷ 0x0A ∷ 0xBC ∷ []
+
+-- the example settings with time limit 2, and the counter at its last value
+abbrev pub quickSettings : Settings
+quickSettings = record { windows = exampleWindows; bits = 8; reads = 128; writes = 128; limit = 2; requester = 0 }
+
+abbrev pub lastTick : Bridge
+lastTick = coreIn (withTicks (2 ^ 32 - 1) (upBridge quickSettings .core)) (upBridge quickSettings)
+
+-- a read sent then, and what is missing for its tag after one tick and after two
+abbrev pub sentLast : Held
+sentLast = held (readStep lastTick (burst.incr 0x12340ABC 2 1) areaSize .bridge) emptyStore
+
+-- W10: sent at 4,294,967,295 with T = 2: open at tick 0, closed at tick 1
+pub record W10 : Type 0 where
+  pub zero : ticked sentLast .bridge .core .ticks ≡ 0
+  pub stays : missingOf (ticked sentLast .bridge) 0 ≡ 4
+  pub one : ticked (ticked sentLast) .bridge .core .ticks ≡ 1
+  pub closed : missingOf (ticked (ticked sentLast) .bridge) 0 ≡ 0
+  pub finished : getD (ticked (ticked sentLast) .bridge .state) 0 0 ≡ 2
+
+-- a bridge with these bus numbers, its link up
+abbrev pub busBridge : Settings → ℕ → ℕ → ℕ → Bridge
+busBridge s p q r = coreIn (withRegisters (withLink true (ecam.buses p q r)) (freshBridge s .core)) (freshBridge s)
+
+abbrev pub narrowSettings : Settings
+narrowSettings = record { windows = exampleWindows; bits = 1; reads = 128; writes = 128; limit = 65535; requester = 0 }
+
+-- a configuration read
+abbrev pub readAt : ℕ → Access
+readAt offset = accessOf offset false 0 0
+
+-- W2 to W9 as the bridge plays them: the headers it sends, and its numbers
+pub record Played : Type 0 where
+  pub w2 :
+      readBytes (upBridge exampleSettings) (burst.incr 0x12340ABC 2 64)
+      ≡ 0x00 ∷ 0x00 ∷ 0x00 ∷ 0x11 ∷ 0x00 ∷ 0x00 ∷ 0x00 ∷ 0xFF ∷ 0x56 ∷ 0x71 ∷ 0x0A ∷ 0xBC
+      ∷ 0x00 ∷ 0x00 ∷ 0x00 ∷ 0x20 ∷ 0x00 ∷ 0x00 ∷ 0x01 ∷ 0xFF ∷ 0x56 ∷ 0x71 ∷ 0x0B ∷ 0x00
+      ∷ 0x00 ∷ 0x00 ∷ 0x00 ∷ 0x0F ∷ 0x00 ∷ 0x00 ∷ 0x02 ∷ 0xFF ∷ 0x56 ∷ 0x71 ∷ 0x0B ∷ 0x80 ∷ []
+  pub w3 :
+      readBytes (upBridge exampleSettings) (burst.incr 0x12340ABE 2 2)
+      ≡ 0x00 ∷ 0x00 ∷ 0x00 ∷ 0x02 ∷ 0x00 ∷ 0x00 ∷ 0x00 ∷ 0xFC ∷ 0x56 ∷ 0x71 ∷ 0x0A ∷ 0xBC ∷ []
+  pub w4 :
+      readBytes (upBridge exampleSettings) (burst.incr 0x12340ABD 0 2)
+      ≡ 0x00 ∷ 0x00 ∷ 0x00 ∷ 0x01 ∷ 0x00 ∷ 0x00 ∷ 0x00 ∷ 0x06 ∷ 0x56 ∷ 0x71 ∷ 0x0A ∷ 0xBC ∷ []
+  pub w5 :
+      map (λ q. readRefusal (upBridge exampleSettings) q areaSize) (burst.incr 0x12340FFE 2 1 ∷ burst.incr 0x12340FFC 2 2 ∷ [])
+      ≡ 0 ∷ 3 ∷ []
+  pub w6 :
+      map (λ q. readRefusal (upBridge exampleSettings) q areaSize) (burst.incr 0x1234FFFC 2 1 ∷ burst.incr 0x12350000 2 1 ∷ [])
+      ≡ 0 ∷ 2 ∷ []
+  pub w7 :
+      configBytes (busBridge exampleSettings 0 1 1) (readAt 0x00100000)
+      ≡ 0x04 ∷ 0x00 ∷ 0x00 ∷ 0x01 ∷ 0x00 ∷ 0x00 ∷ 0x00 ∷ 0x0F ∷ 0x01 ∷ 0x00 ∷ 0x00 ∷ 0x00 ∷ []
+  pub w8 :
+      map (λ o. configRefusal (busBridge narrowSettings 0 1 1) (readAt o) areaSize) (0x001FFFFC ∷ 0x00200000 ∷ [])
+      ≡ 11 ∷ 9 ∷ []
+  pub w9 :
+      map (λ o. configRefusal (freshBridge exampleSettings) (readAt o) areaSize) (0x00000000 ∷ 0x00100000 ∷ [])
+      ≡ 0 ∷ 10 ∷ []
+  pub crossed : configRefusal (busBridge exampleSettings 0 3 2) (readAt 0x00300000) areaSize ≡ 10
+
+-- the ten starred examples, one statement
+pub record Starred : Type 0 where
+  pub w1 : W1
+  pub w2 : burst.W2
+  pub w3 : burst.W3
+  pub w4 : burst.W4
+  pub w5 : burst.W5
+  pub w6 : burst.W6
+  pub w7 : ecam.W7
+  pub w8 : ecam.W8
+  pub w9 : ecam.W9
+  pub w10 : W10
+  pub played : Played
+  pub answered : W3Completed

@@ -1,0 +1,8 @@
+-- What is proved of the bridge's definitions, and the worked examples on them.
+pub mod MemoryLaws
+pub mod ConfigLaws
+pub mod CompletionLaws
+pub mod TickLaws
+pub mod MemoryExamples
+pub mod CompletionExamples
+pub mod Examples

@@ -1,0 +1,3 @@
+pub mod Packets
+pub mod Writes
+pub mod Steps

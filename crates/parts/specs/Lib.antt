@@ -1,0 +1,4 @@
+pub mod Cores
+pub mod Answers
+pub mod Access
+pub mod Numbers

@@ -1,0 +1,105 @@
+// Answers, and what a refusal changes.
+use crate::Answer;
+use crate::Core;
+use crate::Done;
+use crate::Response;
+ghost use Rattle.parts.specs.Cores.{raisedCore};
+ghost use Rattle.parts.specs.Answers.{plain, accepted, refusal, refusalChange, responseOf, refusalResponse};
+ghost use mathlib.Core.Path.{_≡_};
+
+// A decode bit is set.
+pub fn raise_in(c: Core, bit: u32) -> Core
+    ensures { λ r. ⌜ r ≡ raisedCore bit c ⌝ }
+{
+    let mut r = c.registers;
+    r.decode = ecam::raise(r.decode, bit);
+    let mut d = c;
+    d.registers = r;
+    d
+}
+
+// The response of AXI's coding.
+pub fn response_of(code: u32) -> Response
+    ensures { λ r. ⌜ r ≡ responseOf code ⌝ }
+{
+    if code == 0 {
+        return Response::Okay;
+    }
+    if code == 3 {
+        return Response::Decerr;
+    }
+    Response::Slverr
+}
+
+// The response column of the refusal table.
+pub fn refusal_response(n: u32) -> Response
+    ensures { λ r. ⌜ r ≡ refusalResponse n ⌝ }
+{
+    if (n == 2) | (n == 9) {
+        return Response::Decerr;
+    }
+    if (n == 3) | (n == 4) | (n == 10) | (n == 11) | (n == 15) {
+        return Response::Slverr;
+    }
+    if (n == 5) | (n == 6) | (n == 7) {
+        return Response::Wait;
+    }
+    Response::Nothing
+}
+
+// The change column of the refusal table.
+pub fn refusal_change(n: u32, c: Core) -> Core
+    ensures { λ r. ⌜ r ≡ refusalChange n c ⌝ }
+{
+    if n == 3 {
+        return raise_in(c, 25);
+    }
+    if n == 13 {
+        return raise_in(c, 21);
+    }
+    c
+}
+
+pub fn refusal_of(n: u32) -> Answer
+    ensures { λ r. ⌜ r ≡ refusal n ⌝ }
+{
+    Answer {
+        number: n,
+        response: refusal_response(n),
+        slot: 0,
+        length: 0,
+        word: 0,
+    }
+}
+
+pub fn accepted_as(response: Response, slot: u32, sent: usize, word: u32) -> Answer
+    ensures { λ r. ⌜ r ≡ accepted response slot sent word ⌝ }
+{
+    Answer {
+        number: 0,
+        response: response,
+        slot: slot,
+        length: sent,
+        word: word,
+    }
+}
+
+// A refused event, with what its row changes.
+pub fn refuse(n: u32, c: Core) -> Done
+    ensures { λ r. ⌜ (r .core ≡ refusalChange n c) × (r .answer ≡ refusal n) ⌝ }
+{
+    Done {
+        core: refusal_change(n, c),
+        answer: refusal_of(n),
+    }
+}
+
+// What an event that sends nothing answers.
+pub fn plain_answer(n: u32) -> Answer
+    ensures { λ r. ⌜ r ≡ plain n ⌝ }
+{
+    if n == 0 {
+        return accepted_as(Response::Nothing, 0, 0, 0);
+    }
+    refusal_of(n)
+}

@@ -1,0 +1,52 @@
+// The core: fresh, and after a change of the link.
+use crate::Core;
+use crate::access::drop_config;
+use crate::access::free_config;
+use crate::answers::raise_in;
+use ecam::Registers;
+ghost use Prim.Native.Nat.{_-_, _^_};
+ghost use mathlib.Core.Bool.{false};
+ghost use Rattle.parts.specs.Cores.{tagCount, withFree, withConfig, raisedCore, freshCore, linkIn};
+ghost use mathlib.Core.Path.{_≡_};
+ghost use Rattle.parts.specs.Access.{dropConfig};
+
+pub fn fresh_core() -> Core
+    ensures { λ r. ⌜ r ≡ freshCore ⌝ }
+{
+    let registers = Registers {
+        primary: 0,
+        secondary: 0,
+        subordinate: 0,
+        disable: false,
+        decode: 0,
+        mask: 0,
+        link: false,
+    };
+    Core {
+        registers: registers,
+        ticks: 0,
+        free: 0xFFFF_FFFF,
+        config: free_config(),
+    }
+}
+
+pub fn with_link(c: Core, up: bool) -> Core
+    ensures { λ r. ⌜ r ≡ linkIn up c ⌝ }
+{
+    let mut r = c.registers;
+    r.link = up;
+    let mut d = c;
+    d.registers = r;
+    d
+}
+
+// Every tag is free, an open configuration access is finished, bit 0 is set.
+pub fn lost_core(c: Core) -> Core
+    ensures { λ r. ⌜ r ≡ raisedCore 0 (linkIn false (withFree (2 ^ tagCount - 1) (withConfig (dropConfig (c .config)) c))) ⌝ }
+{
+    let config = c.config;
+    let mut d = c;
+    d.config = drop_config(config);
+    d.free = 4294967295;
+    raise_in(with_link(d, false), 0)
+}

@@ -1,0 +1,4 @@
+pub mod Stores
+pub mod Refusals
+pub mod Routed
+pub mod Changes
