@@ -79,6 +79,47 @@ fn number_1_numbers() {
     breaks(|s| s.requester = 0x1_0000);
 }
 
+/// Seven windows of one page each.
+fn seven() -> Vec<Window> {
+    let page = |k: u64| Window {
+        base: k << 12,
+        size: 1 << 12,
+        target: (9 - k) << 12,
+    };
+    (0..7).map(page).collect()
+}
+
+#[test]
+fn number_1_lists() {
+    let example = Bridge::new(&Settings::example());
+    for length in [0, 7] {
+        let made = Bridge::from_list(&seven()[..length], &Settings::example());
+        assert_eq!(made, (example.0.clone(), 1));
+    }
+    let long = [seven(), seven()].concat();
+    assert_eq!(Bridge::from_list(&long, &Settings::example()).1, 1);
+    // A record, or another setting, that breaks its rule.
+    let twice = [seven()[0], seven()[0]];
+    assert_eq!(Bridge::from_list(&twice, &Settings::example()).1, 1);
+    let mut others = Settings::example();
+    others.time_limit = 0;
+    assert_eq!(Bridge::from_list(&seven()[..2], &others).1, 1);
+}
+
+#[test]
+fn lists_give_the_bridge_of_the_arrays() {
+    for length in 1..7 {
+        let mut settings = Settings::example();
+        settings.count = length as u32;
+        settings.windows = [Window::default(); 6];
+        settings.windows[..length].copy_from_slice(&seven()[..length]);
+        // The windows beside the list are not looked at.
+        let made = Bridge::from_list(&seven()[..length], &Settings::example());
+        assert_eq!(made, Bridge::new(&settings));
+        assert_eq!(made.1, 0);
+    }
+}
+
 #[test]
 fn settings_at_their_edges_are_taken() {
     let accepted = |change: &dyn Fn(&mut Settings)| {

@@ -2,8 +2,9 @@
 
 use second::generate::{damage, traffic};
 use second::run::own_log;
+use second::settings::Window;
 use second::shrink::{difference, Shrinker};
-use second::traffic::{adler, Event, Traffic, HEADER_BYTES};
+use second::traffic::{adler, Event, Making, Traffic, HEADER_BYTES, RECORD_BYTES};
 
 /// The example bridge with T = 2, store 32,768, first tick 4,294,967,295.
 fn header() -> Vec<u8> {
@@ -43,11 +44,44 @@ fn example() -> Vec<u8> {
     bytes
 }
 
+/// The same as a list, with the count and the seventh record given.
+fn as_list(count: u8, seventh: &[u8; RECORD_BYTES]) -> Vec<u8> {
+    let mut bytes = example();
+    bytes[7] = 2;
+    bytes[11] = count;
+    bytes.splice(HEADER_BYTES..HEADER_BYTES, *seventh);
+    bytes
+}
+
 const EXAMPLE_LOG: &str = include_str!("example.log");
 
 #[test]
 fn example_log() {
     assert_eq!(own_log(&example()), EXAMPLE_LOG);
+}
+
+/// Neither the way of making nor the seventh record shows in the log.
+#[test]
+fn example_log_of_a_list() {
+    for seventh in [[0; RECORD_BYTES], [0xFF; RECORD_BYTES]] {
+        assert_eq!(own_log(&as_list(1, &seventh)), EXAMPLE_LOG);
+    }
+    let list = |count: u8| own_log(&as_list(count, &[0; RECORD_BYTES]));
+    for count in [0, 7, 8, 255] {
+        assert!(list(count).starts_with("new 1 regs"), "{count} records");
+        assert!(list(count).ends_with("end 7\n"), "{count} records");
+    }
+}
+
+#[test]
+fn both_ways_give_one_log() {
+    for seed in 0..60 {
+        let mut made = traffic(seed, 100);
+        made.header.making = Making::Arrays;
+        let arrays = own_log(&made.encode());
+        made.header.making = Making::List(Window::default());
+        assert_eq!(own_log(&made.encode()), arrays, "seed {seed}");
+    }
 }
 
 #[test]
@@ -98,10 +132,28 @@ fn every_cut_is_told_with_its_place() {
 }
 
 #[test]
+fn every_cut_of_a_list_is_told_with_its_place() {
+    let bytes = as_list(1, &[0; RECORD_BYTES]);
+    let first = HEADER_BYTES + RECORD_BYTES;
+    for length in 0..first {
+        assert_eq!(last_line(&bytes[..length]), "cut header at 0");
+    }
+    for length in first..first + 6 {
+        assert_eq!(last_line(&bytes[..length]), "cut event 0 at 208");
+    }
+    assert_eq!(last_line(&bytes[..first + 6]), "cut event 1 at 214");
+    // The first 184 bytes are judged before the seventh record is looked for.
+    let mut store = bytes[..HEADER_BYTES].to_vec();
+    store[181] = 1;
+    assert_eq!(last_line(&store), "damaged header at 0");
+}
+
+#[test]
 fn damage_is_told_with_its_place() {
-    let cases: [(usize, u8, &str); 14] = [
+    let cases: [(usize, u8, &str); 15] = [
         (0, 0, "damaged header at 0"),
-        (7, 2, "damaged header at 0"),
+        (7, 0, "damaged header at 0"),
+        (7, 3, "damaged header at 0"),
         (181, 1, "damaged header at 0"),
         (184, 0, "damaged event 0 at 184"),
         (184, 13, "damaged event 0 at 184"),

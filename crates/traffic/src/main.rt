@@ -10,6 +10,7 @@ mod sum;
 
 use address::Settings;
 use address::Windows;
+use bridge::Answered;
 use bridge::Bridge;
 use common::index;
 use common::wide;
@@ -28,9 +29,14 @@ use libc::STDOUT_FILENO;
 use player::Player;
 use player::say_end;
 use player::say_new;
+use window_list::Others;
+use window_list::Window;
+use window_list::bridge_from_first;
 
-// The bytes of the header.
+// The bytes of the header, and of one more record in the header of a list.
 const HEADER: usize = 184;
+
+const RECORD: usize = 24;
 
 fn settings_in(h: &[u8]) -> Settings {
     let windows = Windows {
@@ -70,9 +76,69 @@ fn settings_in(h: &[u8]) -> Settings {
     }
 }
 
+// The window whose three numbers begin at a place; zeros past every header.
+fn window_in(h: &[u8], at: usize) -> Window {
+    if 900 < at {
+        return Window {
+            base: 0,
+            size: 0,
+            target: 0,
+        };
+    }
+    Window {
+        base: long_at(h, at),
+        size: long_at(h, at + 8),
+        target: long_at(h, at + 16),
+    }
+}
+
+// The bridge from a list of the header's windows and one more record.
+fn made_from_list(h: &[u8], more: &[u8]) -> Answered {
+    let seven = [
+        window_in(h, 12),
+        window_in(h, 36),
+        window_in(h, 60),
+        window_in(h, 84),
+        window_in(h, 108),
+        window_in(h, 132),
+        window_in(more, 0),
+    ];
+    let others = Others {
+        bits: word_at(h, 156),
+        reads: word_at(h, 160),
+        writes: word_at(h, 164),
+        limit: word_at(h, 168),
+        requester: word_at(h, 172),
+    };
+    bridge_from_first(index(word_at(h, 8)), seven, others)
+}
+
+// Version 2 asks for a list, version 1 for plain arrays.
+fn is_list(h: &[u8]) -> bool {
+    word_at(h, 4) == 2
+}
+
+fn made(h: &[u8], more: &[u8]) -> Answered {
+    if is_list(h) {
+        return made_from_list(h, more);
+    }
+    Bridge::new(settings_in(h))
+}
+
+// Where the first record begins.
+fn header_end(h: &[u8]) -> u64 {
+    if is_list(h) {
+        return 208;
+    }
+    184
+}
+
 // The magic, the version and the length of the store.
 fn header_right(h: &[u8]) -> bool {
-    (word_at(h, 0) == 0x41504254) & (word_at(h, 4) == 1) & (index(word_at(h, 180)) <= record::STORE)
+    let version = word_at(h, 4);
+    (word_at(h, 0) == 0x41504254)
+        & ((version == 1) | (version == 2))
+        & (index(word_at(h, 180)) <= record::STORE)
 }
 
 // A record that is lent the area, or a part of it.
@@ -210,19 +276,19 @@ fn play(p: Player, bytes: &mut [u8], store: &mut [u8], area: &mut [u8]) {
 }
 
 // The bridge that the header asks for, with its first tick value.
-fn begin(h: &[u8], bytes: &mut [u8], store: &mut [u8], area: &mut [u8]) {
+fn begin(h: &[u8], more: &[u8], bytes: &mut [u8], store: &mut [u8], area: &mut [u8]) {
     sum::fill(store, 251);
     sum::fill(area, 241);
-    let made = Bridge::new(settings_in(h));
-    let answer = made.answer;
-    let mut bridge = made.bridge;
+    let first = made(h, more);
+    let answer = first.answer;
+    let mut bridge = first.bridge;
     let mut core = bridge.core;
     core.ticks = word_at(h, 176);
     bridge.core = core;
     let p = Player {
         bridge: bridge,
         events: 0,
-        at: 184,
+        at: header_end(h),
         sum: sum::sum_of(store),
         going: true,
     };
@@ -231,17 +297,26 @@ fn begin(h: &[u8], bytes: &mut [u8], store: &mut [u8], area: &mut [u8]) {
 }
 
 // With the part of the store that the header asks for.
-fn lend(h: &[u8], store: &mut [u8]) {
+fn lend(h: &[u8], more: &[u8], store: &mut [u8]) {
     let mut bytes = [0u8; record::AREA];
     let mut area = [0u8; record::AREA];
     let n = index(word_at(h, 180));
     if n <= store.len() {
-        begin(h, &mut bytes, &mut store[0..n], &mut area);
+        begin(h, more, &mut bytes, &mut store[0..n], &mut area);
     }
+}
+
+// The record after the header of a list; whether it came where it should.
+fn fetch_more(h: &[u8], more: &mut [u8]) -> bool {
+    if is_list(h) {
+        return fetch(more, RECORD);
+    }
+    true
 }
 
 fn main() {
     let mut h = [0u8; HEADER];
+    let mut more = [0u8; RECORD];
     let mut store = [0u8; record::STORE];
     if !fetch(&mut h, HEADER) {
         io::write_all(STDOUT_FILENO, b"cut header at 0\n");
@@ -251,5 +326,9 @@ fn main() {
         io::write_all(STDOUT_FILENO, b"damaged header at 0\n");
         return;
     }
-    lend(&h, &mut store);
+    if !fetch_more(&h, &mut more) {
+        io::write_all(STDOUT_FILENO, b"cut header at 0\n");
+        return;
+    }
+    lend(&h, &more, &mut store);
 }

@@ -8,7 +8,7 @@ mod time;
 
 pub use config::Access;
 
-use crate::settings::{PcieAddress, Settings};
+use crate::settings::{PcieAddress, Settings, Window};
 
 /// "32 free tags, 8 free read slots and one free configuration slot"
 pub const TAGS: u32 = 32;
@@ -103,6 +103,24 @@ pub struct Bridge {
 }
 
 impl Bridge {
+    /// The same from "a list of window records that the caller lends"; of
+    /// `others` the windows are not looked at. "1 to 6 windows".
+    pub fn from_list(records: &[Window], others: &Settings) -> (Bridge, u32) {
+        let mut settings = Settings {
+            count: 0,
+            windows: [Window::default(); 6],
+            ..others.clone()
+        };
+        for record in records {
+            let Some(place) = settings.windows.get_mut(settings.count as usize) else {
+                return (Bridge::fresh(Settings::example()), 1);
+            };
+            *place = *record;
+            settings.count += 1;
+        }
+        Bridge::new(&settings)
+    }
+
     /// A fresh bridge and 0, or refusal 1 with the fresh bridge of the worked examples
     /// in its place.
     pub fn new(settings: &Settings) -> (Bridge, u32) {

@@ -58,6 +58,7 @@ impl Coverage {
         let mut machine = Machine::new(&traffic.header);
         self.number("new", machine.number);
         self.settings(&traffic.header.settings);
+        self.making(&traffic.header, machine.number);
         let mut memory = Memory::default();
         for event in &traffic.events {
             let before = machine.bridge.clone();

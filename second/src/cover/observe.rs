@@ -7,7 +7,7 @@ use crate::bridge::{Access, Bridge, Cause, ConfigSlot, Owner, Piece, CONFIG_SLOT
 use crate::burst::{cut, Burst};
 use crate::header::{read_completion, Completion};
 use crate::settings::{PcieAddress, Settings};
-use crate::traffic::{Event, Machine, Outcome};
+use crate::traffic::{Event, Header, Machine, Outcome};
 
 fn owner_name(owner: Owner) -> &'static str {
     match owner {
@@ -23,6 +23,20 @@ impl Coverage {
         self.hit_if(broken.is_empty(), format!("windows: {}", settings.count));
         for rule in broken {
             self.hit(format!("settings: {rule}"));
+        }
+    }
+
+    /// Each way of making a bridge, accepted and refused; lists of each length.
+    pub(super) fn making(&mut self, header: &Header, number: u32) {
+        let list = header.list();
+        let way = list.as_ref().map_or("arrays", |_| "list");
+        self.hit(format!("made from {way}: {number}"));
+        let broken = classify::broken_rules(&header.settings);
+        let (few, many) = (["count below 1"], ["count above 6"]);
+        let only = broken == few || broken == many;
+        let length = list.map_or(header.settings.count as usize, |l| l.len());
+        if number == 0 || only {
+            self.hit(format!("made from {way}: {} records", length.min(7)));
         }
     }
 

@@ -166,6 +166,14 @@ pub fn required() -> Vec<String> {
         add(format!("burst: size code {number}"));
         add(format!("windows: {}", number + 1));
     }
+    for way in ["arrays", "list"] {
+        // The count alone makes the difference.
+        for records in 0..8 {
+            add(format!("made from {way}: {records} records"));
+        }
+        add(format!("made from {way}: 0"));
+        add(format!("made from {way}: 1"));
+    }
     for word in LOCAL_WORDS {
         add(format!("config: local read of {word:03X}"));
         add(format!("config: local write of {word:03X}"));

@@ -4,7 +4,7 @@ use super::{Counterexample, Figures};
 use crate::bridge::CONFIG_SLOT;
 use crate::generate::{lawful_settings, Generator, Random};
 use crate::settings::Settings;
-use crate::traffic::{Event, Header, Machine, Outcome};
+use crate::traffic::{Event, Header, Machine, Making, Outcome};
 
 /// One trial: two bridges with any past, brought to equal registers, a link that
 /// is down and free slots; then the same events on both.
@@ -33,6 +33,7 @@ pub fn alike(seed: u64, events: usize) -> Result<Figures, Counterexample> {
 
 fn history(settings: &Settings, random: &mut Random) -> Generator {
     let header = Header {
+        making: Making::Arrays,
         settings: settings.clone(),
         counter: random.word(),
         store: random.between(32_768, 40_960),

@@ -9,7 +9,7 @@ use crate::bridge::{Bridge, ConfigSlot, CONFIG_SLOT};
 use crate::burst::Burst;
 use crate::generate::far::{headers, Kind, Owed};
 use crate::generate::{bursts, configs, header_damage, lawful_settings, Random};
-use crate::traffic::{Event, Header, Machine, Outcome};
+use crate::traffic::{Event, Header, Machine, Making, Outcome};
 use std::collections::BTreeSet;
 
 /// A request that the bridge sent, with the list that is sent for it.
@@ -48,6 +48,7 @@ pub fn honest(seed: u64, events: usize) -> Result<Figures, Counterexample> {
         _ => random.between(61, 1000),
     };
     let header = Header {
+        making: Making::Arrays,
         counter: u32::MAX - random.between(0, 500),
         store: 32_768,
         settings,

@@ -2,7 +2,7 @@
 
 use super::Random;
 use crate::settings::{AxiAddress, Settings, Window};
-use crate::traffic::{Header, STORE_LIMIT};
+use crate::traffic::{Header, Making, STORE_LIMIT};
 
 /// The ways in which `broken` breaks settings.
 pub const WAYS: u64 = 19;
@@ -12,11 +12,43 @@ pub fn header(seed: u64, random: &mut Random) -> Header {
     if seed % 8 == 5 {
         broken(&mut settings, seed / 8 % WAYS, random);
     }
+    let making = making(seed, &mut settings);
     Header {
+        making,
         counter: first_tick(random, settings.time_limit),
         store: store_length(seed, random),
         settings,
     }
+}
+
+/// From arrays or from a list, each half of the time; one seed in 32 has a
+/// count that alone breaks its rule. Its numbers are its own, so that the
+/// events of a seed do not hang on it.
+fn making(seed: u64, settings: &mut Settings) -> Making {
+    let random = &mut Random::new(seed ^ 0x0115_7000);
+    let mut list = random.chance(50);
+    let mut seventh = Window {
+        base: random.long(),
+        size: random.long(),
+        target: random.long(),
+    };
+    if seed % 32 == 7 {
+        list = (seed / 32).is_multiple_of(2);
+        seventh = seven(settings, random);
+        // None and seven in turn.
+        settings.count = seed as u32 / 64 % 2 * 7;
+    }
+    match list {
+        true => Making::List(seventh),
+        false => Making::Arrays,
+    }
+}
+
+/// Fills all six places, and gives a seventh window that is as lawful.
+fn seven(settings: &mut Settings, random: &mut Random) -> Window {
+    settings.count = 6;
+    place_windows(settings, random);
+    beside(&settings.windows, random)
 }
 
 /// Mostly the least length; rarely one that is too short for every call.
@@ -69,13 +101,16 @@ fn time_limit(random: &mut Random) -> u32 {
 fn place_windows(settings: &mut Settings, random: &mut Random) {
     let count = settings.count as usize;
     for index in 0..count {
-        loop {
-            let candidate = window(random);
-            let placed = &settings.windows[..index];
-            if placed.iter().all(|w| apart(w, &candidate)) {
-                settings.windows[index] = candidate;
-                break;
-            }
+        settings.windows[index] = beside(&settings.windows[..index], random);
+    }
+}
+
+/// A lawful window apart from those that are placed.
+fn beside(placed: &[Window], random: &mut Random) -> Window {
+    loop {
+        let candidate = window(random);
+        if placed.iter().all(|w| apart(w, &candidate)) {
+            return candidate;
         }
     }
 }

@@ -2,7 +2,7 @@
 
 use super::*;
 use crate::header::Target;
-use crate::settings::{AxiAddress, PcieAddress, Window};
+use crate::settings::{AxiAddress, PcieAddress};
 
 /// What is wrong with a file, and where.
 #[derive(Clone, Debug, PartialEq, Eq)]
@@ -83,23 +83,37 @@ impl<'a> Decoder<'a> {
     fn header_fields(&mut self) -> Try<Header> {
         let magic = self.take(4)?;
         let version = self.word()?;
-        let header = Header {
-            settings: self.settings()?,
-            counter: self.word()?,
-            store: self.word()?,
+        let settings = self.settings()?;
+        let counter = self.word()?;
+        let store = self.word()?;
+        let known = version == VERSION_ARRAYS || version == VERSION_LIST;
+        judge(magic == MAGIC && known && store <= STORE_LIMIT)?;
+        self.store = store;
+        let making = match version {
+            VERSION_LIST => Making::List(self.window()?),
+            _ => Making::Arrays,
         };
-        judge(magic == MAGIC && version == VERSION && header.store <= STORE_LIMIT)?;
-        self.store = header.store;
-        Ok(header)
+        Ok(Header {
+            making,
+            settings,
+            counter,
+            store,
+        })
+    }
+
+    fn window(&mut self) -> Try<Window> {
+        Ok(Window {
+            base: self.long()?,
+            size: self.long()?,
+            target: self.long()?,
+        })
     }
 
     fn settings(&mut self) -> Try<Settings> {
         let count = self.word()?;
         let mut windows = [Window::default(); 6];
         for window in &mut windows {
-            window.base = self.long()?;
-            window.size = self.long()?;
-            window.target = self.long()?;
+            *window = self.window()?;
         }
         Ok(Settings {
             count,

@@ -31,6 +31,12 @@ impl Sink {
         self.0.extend(bytes);
     }
 
+    fn window(&mut self, window: &Window) {
+        self.long(window.base);
+        self.long(window.size);
+        self.long(window.target);
+    }
+
     fn burst(&mut self, burst: &Burst) {
         self.long(burst.start.0);
         self.words(&[burst.size, burst.beats, burst.kind]);
@@ -51,15 +57,20 @@ pub fn traffic(traffic: &Traffic) -> Vec<u8> {
 fn header(sink: &mut Sink, header: &Header) {
     let settings = &header.settings;
     sink.0.extend(MAGIC);
-    sink.words(&[VERSION, settings.count]);
+    let version = match header.making {
+        Making::Arrays => VERSION_ARRAYS,
+        Making::List(_) => VERSION_LIST,
+    };
+    sink.words(&[version, settings.count]);
     for window in &settings.windows {
-        sink.long(window.base);
-        sink.long(window.size);
-        sink.long(window.target);
+        sink.window(window);
     }
     sink.words(&[settings.bus_bits, settings.read_limit]);
     sink.words(&[settings.write_limit, settings.time_limit]);
     sink.words(&[settings.requester, header.counter, header.store]);
+    if let Making::List(seventh) = &header.making {
+        sink.window(seventh);
+    }
 }
 
 fn event(sink: &mut Sink, event: &Event) {

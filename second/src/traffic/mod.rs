@@ -13,11 +13,15 @@ pub use player::{adler, play, Machine, Outcome};
 use crate::bridge::Access;
 use crate::burst::Burst;
 use crate::header::{Completion, Request};
-use crate::settings::Settings;
+use crate::settings::{Settings, Window};
 
 pub const MAGIC: [u8; 4] = *b"APBT";
-pub const VERSION: u32 = 1;
+/// The two versions: the bridge is made from plain arrays, or from a list of
+/// window records, and the header has one record more.
+pub const VERSION_ARRAYS: u32 = 1;
+pub const VERSION_LIST: u32 = 2;
 pub const HEADER_BYTES: usize = 184;
+pub const RECORD_BYTES: usize = 24;
 pub const AREA_LIMIT: u32 = 8192;
 pub const DATA_LIMIT: u32 = 8192;
 pub const STORE_LIMIT: u32 = 40_960;
@@ -37,9 +41,18 @@ pub const KIND_COMPLETION_WRITER: u8 = 11;
 pub const KIND_COMPLETION_READER: u8 = 12;
 pub const KIND_END: u8 = 255;
 
+/// How the bridge is made.
+#[derive(Clone, Copy, Debug, PartialEq, Eq)]
+pub enum Making {
+    Arrays,
+    /// From a list, whose seventh record is this.
+    List(Window),
+}
+
 /// What stands before the events.
 #[derive(Clone, Debug, PartialEq, Eq)]
 pub struct Header {
+    pub making: Making,
     pub settings: Settings,
     /// The first value of the tick counter.
     pub counter: u32,
@@ -97,6 +110,20 @@ pub enum Event {
     CompletionReader {
         bytes: Vec<u8>,
     },
+}
+
+impl Header {
+    /// The records of the list: as many as the count says, seven for a larger
+    /// one. Nothing where the bridge is made from arrays.
+    pub fn list(&self) -> Option<Vec<Window>> {
+        let Making::List(seventh) = self.making else {
+            return None;
+        };
+        let mut records = self.settings.windows.to_vec();
+        records.push(seventh);
+        records.truncate(self.settings.count as usize);
+        Some(records)
+    }
 }
 
 impl Event {

@@ -66,7 +66,10 @@ pub struct Machine {
 
 impl Machine {
     pub fn new(header: &Header) -> Machine {
-        let (mut bridge, number) = Bridge::new(&header.settings);
+        let (mut bridge, number) = match header.list() {
+            Some(records) => Bridge::from_list(&records, &header.settings),
+            None => Bridge::new(&header.settings),
+        };
         bridge.set_counter(header.counter);
         Machine {
             bridge,
