@@ -1,0 +1,84 @@
+-- Events as data, and lists of them from a fresh bridge. `step` is made of the very definitions that the contracts of the
+-- bridge's methods cite.
+use Prim.Native.Nat.{ℕ}
+use mathlib.Core.List.{List, [], _∷_}
+use mathlib.Core.Bool.{Bool, cond}
+use lib.ListN.{length}
+use lib.Dec.{eqb}
+use Rattle.address.specs.declared.Settings.{Settings}
+use Rattle.ecam.specs.declared.Registers.{Registers}
+use Rattle.burst.specs.declared.Burst.{Burst}
+use Rattle.parts.specs.declared.Answer.{Answer}
+use Rattle.bridge.specs.State.{newBridge, registersOf}
+use Rattle.bridge.specs.Memory.{readRefusal, readBytes, readStep, writeRefusal, writeBytes, writeStep}
+use Rattle.bridge.specs.Config.{Access, configRefusal, configBytes, configStep}
+use Rattle.bridge.specs.Completions.{Held, held, completed, completeStep, plain}
+use Rattle.bridge.specs.Ticks.{ticked, tickStep, linked, linkStep}
+use Rattle.bridge.specs.Take.{takeRefusal, looked, releaseStep}
+
+-- the arguments of each call; of a lent sending area, its length. The number beside a completion is no part of it: it names
+-- the request that the far side answers with it, and `step` does not see it
+pub data Event : Type 0 where
+  read : Burst → ℕ → Event
+  write : Burst → List ℕ → ℕ → Event
+  config : Access → ℕ → Event
+  completion : ℕ → List ℕ → Event
+  tick : Event
+  link : Bool → Event
+  look : ℕ → Event
+  release : ℕ → Event
+
+-- what an event shows: its answer, the bytes sent, and the look's bytes
+pub record Out : Type 0 where
+  pub answer : Answer
+  pub sent : List ℕ
+  pub part : List ℕ
+
+-- the bridge with its store after an event, and what it shows
+pub record Result : Type 0 where
+  pub after : Held
+  pub out : Out
+
+abbrev pub shows : Held → Answer → List ℕ → List ℕ → Result
+shows h a sent part = record { after = h; out = record { answer = a; sent = sent; part = part } }
+
+-- an accepted call sends its bytes, a refused one none
+abbrev pub sentBy : ℕ → List ℕ → List ℕ
+sentBy number bytes = cond (eqb number 0) bytes []
+
+abbrev pub step : Held → Event → Result
+step h (read q room) =
+    shows (held (readStep (h .bridge) q room .bridge) (h .store)) (readStep (h .bridge) q room .answer)
+    (sentBy (readRefusal (h .bridge) q room) (readBytes (h .bridge) q)) []
+step h (write q bytes room) =
+    shows (held (writeStep (h .bridge) q bytes room .bridge) (h .store)) (writeStep (h .bridge) q bytes room .answer)
+    (sentBy (writeRefusal (h .bridge) q (length bytes) room) (writeBytes (h .bridge .settings) q bytes room)) []
+step h (config a room) =
+    shows (held (configStep (h .bridge) a room .bridge) (h .store)) (configStep (h .bridge) a room .answer)
+    (sentBy (configRefusal (h .bridge) a room) (configBytes (h .bridge) a)) []
+step h (completion i s) = shows (completed h s) (completeStep (h .bridge) (h .store) s .answer) [] []
+step h tick = shows (ticked h) (tickStep (h .bridge) (h .store) .answer) [] []
+step h (link up) = shows (linked up h) (linkStep up (h .bridge) (h .store) .answer) [] []
+step h (look k) = shows h (plain (takeRefusal (h .bridge) (length (h .store)) k)) [] (looked (h .bridge) (h .store) k)
+step h (release k) =
+    shows (held (releaseStep (h .bridge) (length (h .store)) k .bridge) (h .store))
+    (releaseStep (h .bridge) (length (h .store)) k .answer) [] []
+
+-- 'Each gets the bridge, and .. the same [store] .. as the last left them'
+abbrev pub run : Held → List Event → Held
+run h [] = h
+run h (e ∷ es) = run (step h e .after) es
+
+-- a fresh bridge, with any settings, and the store that it is lent; refused settings give the bridge that stands in their place
+abbrev pub start : Settings → List ℕ → Held
+start s store = held (newBridge s .bridge) store
+
+-- what is seen of a list of events: what each shows, and the registers after it
+pub record Seen : Type 0 where
+  pub out : Out
+  pub registers : Registers
+
+abbrev pub seen : Held → List Event → List Seen
+seen h [] = []
+seen h (e ∷ es) =
+    record { out = step h e .out; registers = registersOf (step h e .after .bridge) } ∷ seen (step h e .after) es

@@ -1,0 +1,9 @@
+pub mod Events
+pub mod FarSide
+pub mod Sent
+pub mod Claims
+pub mod Sound
+pub mod FirstFailure
+pub mod Methods
+pub mod Example
+pub mod Applied
