@@ -150,6 +150,15 @@ fn damaged_request(name: &[u8], n: usize, at: usize, byte: u8) {
     }
 }
 
+// The same of a configuration read of bus 1, register 1.
+fn damaged_config(name: &[u8], at: usize, byte: u8) {
+    let mut s = [0x04u8, 0, 0, 1, 0, 0, 0, 0x0F, 1, 0, 0, 4];
+    if at < 12 {
+        s[at] = byte;
+        say_first(name, &s, 12);
+    }
+}
+
 // The same of a completion with one word of data.
 fn damaged_completion(name: &[u8], n: usize, at: usize, byte: u8) {
     let mut s = [0x4Au8, 0, 0, 1, 0x01, 0, 0, 4, 0, 0, 0, 0x3C, 0, 0, 0, 0, 0];
@@ -205,6 +214,10 @@ fn refused_requests() {
         b"no last enables with two words",
         memory(false, 0, 2, 0, 0xF),
     );
+    request(
+        b"no first enables with two words",
+        memory(false, 0, 2, 0xF, 0),
+    );
     request(b"address not a multiple of 4", memory(false, 2, 1, 0, 0xF));
 }
 
@@ -233,6 +246,11 @@ fn damaged() {
     damaged_request(b"length 4", 12, 3, 4);
     damaged_request(b"address bit 0", 12, 11, 0xBD);
     damaged_request(b"byte 0 05, a configuration header", 12, 0, 0x05);
+    damaged_config(b"configuration read", 0, 0x04);
+    damaged_config(b"configuration read, register bit 0", 11, 5);
+    damaged_config(b"configuration read, register bit 1", 11, 6);
+    damaged_config(b"configuration read, extended register bit 4", 10, 0x10);
+    damaged_config(b"configuration read of two words", 3, 2);
     damaged_completion(b"completion", 12, 0, 0x4A);
     damaged_completion(b"completion and payload", 16, 0, 0x4A);
     damaged_completion(b"without data, length 1", 12, 0, 0x0A);
