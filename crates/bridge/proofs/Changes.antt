@@ -2,8 +2,9 @@
 use mathlib.Core.Path.{_≡_, refl, sym, ap, _∙_}
 use mathlib.Core.Bool.{Bool, true, false, cond}
 use mathlib.Core.List.{List}
-use Prim.Native.Nat.{ℕ, _+_, _-_, min}
+use Prim.Native.Nat.{ℕ, _+_, _-_, _*_, min}
 use lib.ListN.{getD, set}
+use lib.Seq.{paste}
 use lib.Dec.{ltb, leb, eqb}
 use Rattle.bits.specs.Bits.{setBit}
 use Rattle.address.specs.declared.Settings.{Settings}
@@ -11,13 +12,16 @@ use Rattle.burst.specs.declared.Burst.{Burst}
 use Rattle.parts.specs.declared.Core.{Core}
 use Rattle.parts.specs.declared.Answer.{Answer}
 use Rattle.verdict.specs.declared.Cause.{Cause}
-use Rattle.tables.specs.Changes.{Opening, Shutting, Counting, Claiming, Faulting, Failing, Closing, Dropping}
+use Rattle.verdict.specs.declared.Cause.the-variants.{Poison}
+use Rattle.verdict.specs.declared.Verdict.the-variants.{Good, Poisoned, Failed}
+use Rattle.tables.specs.Changes.{Opening, Shutting, Counting, Claiming, Faulting, Failing, Closing, Dropping, Ending, EndingIf, Advancing, Poisoning, Breaking}
 use Rattle.bridge.specs.declared.Bridge.{Bridge}
 use Rattle.bridge.specs.State.{tagCount, withFree, withConfig, coreIn, bridgeOf, tagsIn, slotsIn, raisedCore, okay, slverr, freeSlot, opened, counted, shut, freed, answered}
 use Rattle.bridge.specs.Memory.{readNumber, readRefusal, claimed}
 use Rattle.bridge.specs.Config.{Access, routedBridge}
 use Rattle.bridge.specs.Verdict.{causeResponse, causeBit}
-use Rattle.bridge.specs.Completions.{Held, held, zeroed, faulted, failed, finished, pieceClosed}
+use Rattle.bridge.specs.Completions.{Held, held, zeroed, usefulBytes, faulted, failed, finished, pieceClosed, closed, advanced, memoryCompleted}
+use Rattle.bridge.specs.Lent.{completing}
 use Rattle.bridge.specs.Ticks.{dropSlot}
 
 -- ---- tags
@@ -101,6 +105,64 @@ pub drops : {k : ℕ} {n st w e store st₁ w₁ e₁ store₁ : List ℕ} → D
 unfolding dropSlot
 drops {k} {n} {st} {w} {e} {store} {st₁} {w₁} {e₁} {store₁} h b =
     drops-by k n st w e store st₁ w₁ e₁ store₁ (eqb (getD st k 0) 1) (h .state) (h .pieces) (h .cause) (h .bytes) b
+
+-- ---- a completion for a piece
+
+ends : {t k : ℕ} {n e : List ℕ} {c c₁ : Core} {m st w store m₁ st₁ w₁ store₁ : List ℕ} → Ending t k n e c m st w store c₁ m₁ st₁ w₁ store₁
+    → (b : Bridge)
+    → held (completing c₁ m₁ (b .owner) (b .place) st₁ (b .start) n w₁ (b .fault) e b) store₁
+    ≡ closed t k (held (completing c m (b .owner) (b .place) st (b .start) n w (b .fault) e b) store)
+ends {t} {k} {n} {e} {c} {c₁} {m} {st} {w} {store} {m₁} h b =
+    let s = slotsIn st (b .start) n w (b .fault) e b in
+    closes (h .closing) (coreIn c₁ (tagsIn m₁ (b .sent) (b .owner) (b .place) b))
+    ∙ ap (λ (x : Bridge). pieceClosed k (held x store))
+    (frees c t (h .core) (tagsIn m₁ (b .sent) (b .owner) (b .place) s) ∙ ap (freed t) (shuts (h .shutting) (coreIn c s)))
+
+advances-by : (x : Bool) (t k : ℕ) (n e : List ℕ) (c c₁ : Core) (m st w store m₁ st₁ w₁ store₁ : List ℕ)
+    → EndingIf x t k n e c m st w store c₁ m₁ st₁ w₁ store₁ → (b : Bridge)
+    → held (completing c₁ m₁ (b .owner) (b .place) st₁ (b .start) n w₁ (b .fault) e b) store₁
+    ≡ cond x (closed t k (held (completing c m (b .owner) (b .place) st (b .start) n w (b .fault) e b) store))
+    (held (completing c m (b .owner) (b .place) st (b .start) n w (b .fault) e b) store)
+advances-by true t k n e c c₁ m st w store m₁ st₁ w₁ store₁ h b = ends h b
+advances-by false t k n e c c₁ m st w store m₁ st₁ w₁ store₁ h b = rw (h .core, h .missing, h .state, h .pieces, h .bytes)
+
+advances : {t k a : ℕ} {n e : List ℕ} {c c₁ : Core} {m p st w store m₁ p₁ st₁ w₁ store₁ : List ℕ}
+    → Advancing t k a n e c m p st w store c₁ m₁ p₁ st₁ w₁ store₁ → (b : Bridge)
+    → held (completing c₁ m₁ (b .owner) p₁ st₁ (b .start) n w₁ (b .fault) e b) store₁
+    ≡ advanced t k a (held (completing c m (b .owner) p st (b .start) n w (b .fault) e b) store)
+unfolding advanced counted
+advances {t} {k} {a} {n} {e} {c} {c₁} {m} {p} {st} {w} {store} {m₁} {p₁} {st₁} {w₁} {store₁} h b =
+    rw (h .place)
+    (advances-by (leb (getD m t 0) a) t k n e c c₁ (set m t (getD m t 0 - a)) st w store m₁ st₁ w₁ store₁ (h .ending)
+    (tagsIn (b .missing) (b .sent) (b .owner) (set p t (getD p t 0 + a)) b))
+
+-- good data goes to its place
+pub stores : {t k a : ℕ} {n e : List ℕ} {c c₁ : Core} {m p st w m₁ p₁ st₁ w₁ store₁ : List ℕ} (store : List ℕ) (skip : ℕ) (payload : List ℕ)
+    → Advancing t k a n e c m p st w (paste store (4096 * k + getD p t 0) (usefulBytes skip a payload) a) c₁ m₁ p₁ st₁ w₁ store₁ → (b : Bridge)
+    → held (completing c₁ m₁ (b .owner) p₁ st₁ (b .start) n w₁ (b .fault) e b) store₁
+    ≡ memoryCompleted (held (completing c m (b .owner) p st (b .start) n w (b .fault) e b) store) t k skip payload (Good a)
+unfolding memoryCompleted
+stores store skip payload h b = advances h b
+
+pub poisons : {t k a : ℕ} {n : List ℕ} {c c₁ : Core} {m p st w f e store m₁ p₁ st₁ w₁ f₁ e₁ store₁ : List ℕ} (skip : ℕ) (payload : List ℕ)
+    → Poisoning t k a n c m p st w f e store c₁ m₁ p₁ st₁ w₁ f₁ e₁ store₁ → (b : Bridge)
+    → held (completing c₁ m₁ (b .owner) p₁ st₁ (b .start) n w₁ f₁ e₁ b) store₁
+    ≡ memoryCompleted (held (completing c m (b .owner) p st (b .start) n w f e b) store) t k skip payload (Poisoned a)
+unfolding memoryCompleted
+poisons {t} {k} {a} {n} {c} {m = m} {p = p} {st = st} {w = w} {f = f} {e = e} {store = store} {f₁ = f₁} skip payload h b =
+    advances (h .advancing) (slotsIn (b .state) (b .start) (b .size) (b .pieces) f₁ (b .cause) b)
+    ∙ ap (λ (x : Bridge). advanced t k a (held x store))
+    (fails (record { core = refl; faulting = h .faulting }) (tagsIn m (b .sent) (b .owner) p (slotsIn st (b .start) n w f e b)))
+
+pub breaks : {t k : ℕ} {why : Cause} {n p : List ℕ} {c c₁ : Core} {m st w f e store m₁ st₁ w₁ f₁ e₁ store₁ : List ℕ} (skip : ℕ) (payload : List ℕ)
+    → Breaking t k why n p c m st w f e store c₁ m₁ st₁ w₁ f₁ e₁ store₁ → (b : Bridge)
+    → held (completing c₁ m₁ (b .owner) p st₁ (b .start) n w₁ f₁ e₁ b) store₁
+    ≡ memoryCompleted (held (completing c m (b .owner) p st (b .start) n w f e b) store) t k skip payload (Failed why)
+unfolding memoryCompleted
+breaks {t} {k} {why} {n} {p} {c} {m = m} {st = st} {w = w} {f = f} {e = e} {store = store} {f₁ = f₁} skip payload h b =
+    ends (h .ending) (tagsIn (b .missing) (b .sent) (b .owner) p (slotsIn (b .state) (b .start) (b .size) (b .pieces) f₁ (b .cause) b))
+    ∙ ap (λ (x : Bridge). closed t k (held x store))
+    (fails (record { core = refl; faulting = h .faulting }) (tagsIn m (b .sent) (b .owner) p (slotsIn st (b .start) n w f e b)))
 
 -- ---- calls
 

@@ -1,5 +1,6 @@
 use Rattle.bridge.specs.Expected.{Within}
 use Rattle.bridge.proofs.Judging.{open-room}
+use Rattle.bridge.proofs.Changes.{stores, poisons, breaks}
 use Rattle.bridge.specs.Completions.{memoryCompleted}
 use Rattle.bridge.specs.State.{slotsIn}
 use lib.ListN.{length, getD}
@@ -11,9 +12,9 @@ use Rattle.bridge.proofs.pieces.memory_in.Statement.{statement}
 use Rattle.bridge.proofs.pieces.memory_in.Tie as tie
 use Rattle.bridge.proofs.pieces.memory_in.Reads as reads
 use Rattle.bridge.proofs.pieces.memory_in.Lts as lts
-use Rattle.bridge.proofs.pieces.failed_in.Reads as failed-in-reads
-use Rattle.bridge.proofs.pieces.good_in.Reads as good-in-reads
-use Rattle.bridge.proofs.pieces.poisoned_in.Reads as poisoned-in-reads
+use Rattle.tables.proofs.pieces.failed_in.Reads as failed-in-reads
+use Rattle.tables.proofs.pieces.good_in.Reads as good-in-reads
+use Rattle.tables.proofs.pieces.poisoned_in.Reads as poisoned-in-reads
 use Rattle.common.proofs.index.Reads as index-reads
 
 -- src/pieces.rt:337:9
@@ -74,7 +75,7 @@ returns-2 : tie.Need-returns-2
 returns-2 c = λ b.
     let a = c .before .before .before .before .before .before .before .before .before .before .before .before .before .before .before .before .args in
     rw (c .before .before .before .before .before .before .before .before .before .before .v .given .1)
-    (rw (c .before .before .before .before .before .before .before .before .before .before .before .before .index .ensures .0) at (c .before .before .good-in .ensures (slotsIn (b .state) (b .start) (b .size) (b .pieces) (a .fault .now) (b .cause) b)))
+    (rw (c .before .before .before .before .before .before .before .before .before .before .before .before .index .ensures .0) at (stores (a .store .now) (c .before .before .before .before .before .before .before .before .before .before .before .before .index .result) (a .payload .now) (c .before .before .good-in .ensures) (slotsIn (b .state) (b .start) (b .size) (b .pieces) (a .fault .now) (b .cause) b)))
 
 -- src/pieces.rt:318:1
 same-length-2 : tie.Need-same-length-2
@@ -82,7 +83,7 @@ same-length-2 c = search needs
 
 -- src/pieces.rt:318:1
 returns-3 : tie.Need-returns-3
-returns-3 c = λ b. let a = c .before .before .before .before .before .before .before .before .before .before .before .before .before .before .before .before .before .args in rw (c .before .before .before .before .before .before .before .before .before .before .before .v2 .given .1) (c .before .before .poisoned-in .ensures b (a .h .lower % 4) (a .payload .now))
+returns-3 c = λ b. let a = c .before .before .before .before .before .before .before .before .before .before .before .before .before .before .before .before .before .args in rw (c .before .before .before .before .before .before .before .before .before .before .before .v2 .given .1) (poisons (a .h .lower % 4) (a .payload .now) (c .before .before .poisoned-in .ensures) b)
 
 -- src/pieces.rt:318:1
 same-length-3 : tie.Need-same-length-3
@@ -90,7 +91,7 @@ same-length-3 c = search needs
 
 -- src/pieces.rt:318:1
 returns-4 : tie.Need-returns-4
-returns-4 c = λ b. let a = c .before .before .before .before .before .before .before .before .before .before .before .before .before .before .before .before .before .args in rw (c .before .before .before .before .before .before .before .before .before .before .before .v3 .given .1) (c .before .before .failed-in .ensures b (a .h .lower % 4) (a .payload .now))
+returns-4 c = λ b. let a = c .before .before .before .before .before .before .before .before .before .before .before .before .before .before .before .before .before .args in rw (c .before .before .before .before .before .before .before .before .before .before .before .v3 .given .1) (breaks (a .h .lower % 4) (a .payload .now) (c .before .before .failed-in .ensures) b)
 
 pub memory-in-spec : {M : Type 1} → statement M
 memory-in-spec =

@@ -1,18 +1,17 @@
-use Rattle.bridge.specs.Completions.{held, advanced, usefulBytes, memoryCompleted}
+use Rattle.tables.specs.Stores.{usefulBytes}
 use lib.Seq.{paste}
 use lib.ListN.{length, getD}
 use mathlib.Core.List.{List}
-use Rattle.bridge.specs.Lent.{completing}
 use native.Mathlib.Omega.{arith}
 use Prim.Native.Nat.{ℕ, _+_, _*_, _%_, _≤_, _<_}
 use mathlib.Core.Path.{_≡_, refl, sym, ap, _∙_}
 use borrow.Author.Needs.{needs}
-use Rattle.bridge.proofs.pieces.good_in.Statement.{statement}
-use Rattle.bridge.proofs.pieces.good_in.Tie as tie
-use Rattle.bridge.proofs.pieces.good_in.Reads as reads
-use Rattle.bridge.proofs.pieces.good_in.Lts as lts
-use Rattle.bridge.proofs.pieces.advance_in.Reads as advance-in-reads
+use Rattle.tables.proofs.pieces.good_in.Statement.{statement}
+use Rattle.tables.proofs.pieces.good_in.Tie as tie
+use Rattle.tables.proofs.pieces.good_in.Reads as reads
+use Rattle.tables.proofs.pieces.good_in.Lts as lts
+use Rattle.tables.proofs.pieces.advance_in.Reads as advance-in-reads
 use Rattle.tables.proofs.packet.store_at.Reads as store-at-reads
 use Rattle.common.proofs.index.Reads as index-reads
 
 -- src/pieces.rt:262:9
@@ -60,13 +59,11 @@ same-length c = search needs
 
 -- src/pieces.rt:244:1
 returns : tie.Need-returns
-unfolding memoryCompleted
-returns c = λ b.
+returns c =
     let a = c .before .before .before .before .before .before .before .before .before .before .before .before .before .before .before .before .before .before .args in
     let e : c .before .before .before .before .before .before .before .before .before .before .store-at .last .0 ≡ paste (a .store .now) (4096 * a .k + getD (a .place .now) (a .tag) 0) (usefulBytes (a .skip) (a .n) (a .payload .now)) (a .n) =
     rw (c .before .before .before .before .before .before .before .before .before .before .before .before .before .index2 .ensures .0, c .before .before .before .before .before .before .before .before .before .before .before .before .index3 .ensures .0, c .before .before .before .before .before .before .before .before .before .before .before .before .before .before .before .index .ensures .0) at (c .before .before .before .before .before .before .before .before .before .before .store-at .ensures) in
-    c .before .before .advance-in .ensures b
-    ∙ ap (λ (x : List ℕ). advanced (a .tag) (a .k) (a .n) (held (completing (a .c) (a .missing .now) (b .owner) (a .place .now) (a .state .now) (b .start) (a .size .now) (a .pieces .now) (b .fault) (a .cause .now) b) x)) e
+    rw (← e) (c .before .before .advance-in .ensures)
 
 pub good-in-spec : {M : Type 1} → statement M
 good-in-spec =
