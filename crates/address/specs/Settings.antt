@@ -4,6 +4,7 @@ use mathlib.Core.List.{List, [], _∷_}
 use mathlib.Core.Bool.{Bool, true, false, cond, _&&_, _||_}
 use lib.ListN.{getD}
 use lib.Dec.{ltb, leb, eqb}
+use Rattle.refusals.specs.Table.{setting}
 use Rattle.common.specs.Tests.{every}
 use Rattle.address.specs.declared.Windows.{Windows}
 use Rattle.address.specs.declared.Settings.{Settings}
@@ -77,7 +78,7 @@ settingsRight s =
 
 -- 'a setting breaks its rule': 1
 unfoldable pub settingsNumber : Settings → ℕ
-settingsNumber s = cond (settingsRight s) 0 1
+settingsNumber s = cond (settingsRight s) 0 setting
 
 -- 'Window 0: base 12340000 hex, 64 KB, target 56710000'
 abbrev pub exampleWindows : Windows

@@ -4,6 +4,7 @@ use mathlib.Core.List.{List}
 use mathlib.Core.Bool.{Bool, cond, _&&_}
 use lib.ListN.{getD}
 use lib.Dec.{ltb, leb}
+use Rattle.refusals.specs.Table.{noWindow}
 use Rattle.address.specs.declared.AxiAddress.{AxiAddress}
 use Rattle.address.specs.declared.PcieAddress.{PcieAddress}
 use Rattle.address.specs.declared.Windows.{Windows}
@@ -39,7 +40,7 @@ Placed Nothing = Unit
 -- 'no window holds the first byte': 2
 abbrev pub foundNumber : Found → ℕ
 foundNumber (At i) = 0
-foundNumber Nothing = 2
+foundNumber Nothing = noWindow
 
 -- 'PCIe address = target + (address - base)', a number of 64 bits
 unfoldable pub translated : ℕ → ℕ → AxiAddress → PcieAddress

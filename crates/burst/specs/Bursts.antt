@@ -3,6 +3,7 @@ use Prim.Native.Nat.{ℕ, _+_, _-_, _*_, _/_, _^_}
 use mathlib.Core.List.{[], _∷_}
 use mathlib.Core.Bool.{Bool, cond}
 use lib.Dec.{leb, eqb}
+use Rattle.refusals.specs.Table.{wrongBurst, wrongData}
 use Rattle.common.specs.Tests.{every}
 use Rattle.address.specs.Settings.{between}
 use Rattle.burst.specs.declared.Burst.{Burst}
@@ -30,7 +31,7 @@ burstRight b =
 
 -- 'burst type, size, beats or page wrong': 3
 unfoldable pub burstNumber : Burst → ℕ
-burstNumber b = cond (burstRight b) 0 3
+burstNumber b = cond (burstRight b) 0 wrongBurst
 
 -- how many bytes an accepted burst covers; a refused one has none
 unfoldable pub lengthOf : Burst → ℕ
@@ -38,4 +39,4 @@ lengthOf b = cond (burstRight b) (endOf b - b .start .0) 0
 
 -- 'write data not the burst's length': 15
 unfoldable pub dataNumber : Burst → ℕ → ℕ
-dataNumber b len = cond (eqb len (lengthOf b)) 0 15
+dataNumber b len = cond (eqb len (lengthOf b)) 0 wrongData

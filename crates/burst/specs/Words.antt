@@ -40,6 +40,6 @@ unfoldable pub wordsBefore : ℕ → ℕ → ℕ → ℕ → ℕ
 wordsBefore l a n zero = 0
 wordsBefore l a n (suc k) = wordsBefore l a n k + wordCount (pieceAt l a n k .first) (pieceAt l a n k .length)
 
--- the lower address of the first completion
+-- the lower address of a completion whose first byte is at a: 'the next address mod 128'
 abbrev pub lowerAddress : ℕ → ℕ
 lowerAddress a = a % 128

@@ -9,6 +9,7 @@ ghost use Rattle.burst.specs.Words.{wordAddress, wordCount, enables, fir
 use address::AxiAddress;
 use common::copy_at;
 use common::index;
+use common::zero_at;
 
 // A burst: its start, size code, number of beats and type.
 pub struct Burst {
@@ -160,18 +161,6 @@ pub fn last_enables(a: u64, n: u32) -> u32
         return 0;
     }
     enables_of(0, ((a % 4 + (n as u64) + 3) % 4 + 1) as u32)
-}
-
-// n zeros, put into dst from at on.
-fn zero_at(dst: &mut [u8], at: usize, n: usize)
-    requires { ⌜ at + n ≤ length (now dst) ⌝ }
-    ensures { λ _. ⌜ now (dst .exit) ≡ paste (now (dst .entry)) at (replicate n 0) n ⌝ }
-{
-    let mut i = 0;
-    while i < n {
-        dst[at + i] = 0;
-        i += 1;
-    }
 }
 
 // The words of the n bytes of src from a place on, which go to address a, put into dst from at on.

@@ -1,4 +1,4 @@
--- Rows of tests, as the refusal table and the header rules have them.
+-- Rows of tests, as the header rules and the local words have them.
 use Prim.Native.Nat.{ℕ}
 use mathlib.Core.List.{List, [], _∷_}
 use mathlib.Core.Bool.{Bool, true, false, cond, _&&_}

@@ -8,13 +8,13 @@ use Rattle.ecam.specs.declared.Registers.{Registers}
 use Rattle.ecam.specs.declared.Route.{Route}
 use Rattle.ecam.specs.declared.Route.the-variants.{OutOfRange, Local, Type0, Type1, NotRouted, DeviceNotZero}
 use Rattle.ecam.specs.Offset.{bus, word}
-use Rattle.ecam.specs.Registers.{fresh}
+use Rattle.ecam.specs.Registers.{fresh, withPrimary, withSecondary, withSubordinate}
 use Rattle.ecam.specs.Route.{route, numberOf}
 use Rattle.ecam.specs.Request.{configRequest}
 
 -- registers with these bus numbers, all else as in a fresh bridge
 abbrev pub buses : ℕ → ℕ → ℕ → Registers
-buses p s b = record { primary = p; secondary = s; subordinate = b; disable = false; decode = 0; mask = 0; link = false }
+buses p s b = withSubordinate (withSecondary (withPrimary fresh p) s) b
 
 -- W7: offset 00100000, buses 0/1/1, config read, tag 0: 04 00 00 01 00 00 00 0F 01 00 00 00
 pub record W7 : Type 0 where

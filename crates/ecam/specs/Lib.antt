@@ -1,5 +1,6 @@
 pub mod Offset
 pub mod Route
+pub mod Fields
 pub mod Registers
 pub mod Request
 pub mod Laws

@@ -4,8 +4,10 @@ use mathlib.Core.List.{List, [], _∷_}
 use mathlib.Core.Bool.{Bool, true, false, cond, not, _&&_, _||_}
 use lib.Dec.{eqb}
 use Rattle.common.specs.Tests.{firstOf}
+use Rattle.common.specs.Decode.{linkDownBit, cfgTimeout, slaveUnsupportedRequest, slaveUnexpectedCompletion, slaveCompletionTimeout, slaveErrorPoison, slaveCompleterAbort, slaveIllegalBurst}
 use Rattle.bits.specs.Bits.{isSet, fromBits, setBit}
 use Rattle.ecam.specs.declared.Registers.{Registers}
+pub use Rattle.ecam.specs.Fields.{withPrimary, withSecondary, withSubordinate, withDisable, withDecode, withMask, withLink}
 
 -- some number of a list passes a test
 unfoldable pub some : (ℕ → Bool) → List ℕ → Bool
@@ -14,7 +16,16 @@ some p (n ∷ ns) = p n || some p ns
 
 -- 'decode bits 0, 8, 20 to 25'
 unfoldable pub decodeBits : List ℕ
-decodeBits = 0 ∷ 8 ∷ 20 ∷ 21 ∷ 22 ∷ 23 ∷ 24 ∷ 25 ∷ []
+decodeBits =
+    linkDownBit
+    ∷ cfgTimeout
+    ∷ slaveUnsupportedRequest
+    ∷ slaveUnexpectedCompletion
+    ∷ slaveCompletionTimeout
+    ∷ slaveErrorPoison
+    ∷ slaveCompleterAbort
+    ∷ slaveIllegalBurst
+    ∷ []
 
 unfoldable pub isDecodeBit : ℕ → Bool
 isDecodeBit i = some (eqb i) decodeBits
@@ -70,51 +81,12 @@ localRead r w =
 -- the registers after a write of d to one of the words
 unfoldable pub writeBuses : Registers → ℕ → ℕ → Registers
 writeBuses r s d =
-    record {
-      primary = numbered (r .primary) s d 0;
-      secondary = numbered (r .secondary) s d 1;
-      subordinate = numbered (r .subordinate) s d 2;
-      disable = r .disable;
-      decode = r .decode;
-      mask = r .mask;
-      link = r .link;
-    }
+    withSubordinate
+    (withSecondary (withPrimary r (numbered (r .primary) s d 0)) (numbered (r .secondary) s d 1))
+    (numbered (r .subordinate) s d 2)
 
 unfoldable pub writeDisable : Registers → ℕ → ℕ → Registers
-writeDisable r s d =
-    record {
-      primary = r .primary;
-      secondary = r .secondary;
-      subordinate = r .subordinate;
-      disable = cond (strobed s 8) (isSet d 8) (r .disable);
-      decode = r .decode;
-      mask = r .mask;
-      link = r .link;
-    }
-
-abbrev pub withDecode : Registers → ℕ → Registers
-withDecode r x =
-    record {
-      primary = r .primary;
-      secondary = r .secondary;
-      subordinate = r .subordinate;
-      disable = r .disable;
-      decode = x;
-      mask = r .mask;
-      link = r .link;
-    }
-
-abbrev pub withMask : Registers → ℕ → Registers
-withMask r x =
-    record {
-      primary = r .primary;
-      secondary = r .secondary;
-      subordinate = r .subordinate;
-      disable = r .disable;
-      decode = r .decode;
-      mask = x;
-      link = r .link;
-    }
+writeDisable r s d = withDisable r (cond (strobed s 8) (isSet d 8) (r .disable))
 
 -- a local write; 'Everything else .. ignores writes'
 unfoldable pub localWrite : Registers → ℕ → ℕ → ℕ → Registers

@@ -2,6 +2,7 @@
 use Prim.Native.Nat.{ℕ, _+_, _^_}
 use mathlib.Core.Bool.{Bool, cond, not, _&&_}
 use lib.Dec.{leb, eqb}
+use Rattle.refusals.specs.Table.{offsetOver, notRouted, wrongDevice}
 use Rattle.ecam.specs.declared.Registers.{Registers}
 use Rattle.ecam.specs.declared.Route.{Route}
 use Rattle.ecam.specs.declared.Route.the-variants.{OutOfRange, Local, Type0, Type1, NotRouted, DeviceNotZero}
@@ -38,9 +39,9 @@ route n r o =
 
 -- each case's refusal number
 abbrev pub numberOf : Route → ℕ
-numberOf OutOfRange = 9
+numberOf OutOfRange = offsetOver
 numberOf (Local w) = 0
 numberOf Type0 = 0
 numberOf Type1 = 0
-numberOf NotRouted = 10
-numberOf DeviceNotZero = 11
+numberOf NotRouted = notRouted
+numberOf DeviceNotZero = wrongDevice

@@ -1,4 +1,5 @@
 // Configuration space: where an access goes, and the registers that the local words show.
+use common::long;
 use tlp::request::ConfigAddress;
 use tlp::request::Request;
 use tlp::request::Target;
@@ -9,7 +10,7 @@ ghost use Rattle.bits.specs.Bits.{isSet, fromBits};
 ghost use Rattle.ecam.specs.Offset.{register, extended, function, device, bus, word};
 ghost use Rattle.ecam.specs.Route.{outOfRange, route, numberOf};
 ghost use Rattle.ecam.specs.Request.{configAddress, configTarget, configRequest, dataBytes, dataWord};
-ghost use Rattle.ecam.specs.Registers.{strobed, reached, numbered, shown, cleared, masked, localRead, localWrite, raised, line};
+ghost use Rattle.ecam.specs.Registers.{fresh, strobed, reached, numbered, shown, cleared, masked, localRead, localWrite, raised, line};
 
 pub struct Registers {
     pub primary: u32,
@@ -28,6 +29,21 @@ pub enum Route {
     Type1,
     NotRouted,
     DeviceNotZero,
+}
+
+// A fresh bridge's registers: link down, all zero.
+pub fn fresh_registers() -> Registers
+    ensures { λ r. ⌜ r ≡ fresh ⌝ }
+{
+    Registers {
+        primary: 0,
+        secondary: 0,
+        subordinate: 0,
+        disable: false,
+        decode: 0,
+        mask: 0,
+        link: false,
+    }
 }
 
 // Bits 0, 8 and 20 to 25.
@@ -78,12 +94,6 @@ fn out_of_range(n: u32, offset: u64) -> bool
     false
 }
 
-fn wide(x: u32) -> u64
-    ensures { λ r. ⌜ r ≡ x ⌝ }
-{
-    x as u64
-}
-
 // Where an access at this offset goes, with n bus bits.
 pub fn route_of(n: u32, r: Registers, offset: u64) -> Route
     ensures { λ x. ⌜ x ≡ route n r offset ⌝ }
@@ -92,15 +102,15 @@ pub fn route_of(n: u32, r: Registers, offset: u64) -> Route
         return Route::OutOfRange;
     }
     let b = bus(offset);
-    let p = wide(r.primary);
+    let p = long(r.primary);
     if b == p {
         return Route::Local(word(offset));
     }
-    let s = wide(r.secondary);
+    let s = long(r.secondary);
     if b < s {
         return Route::NotRouted;
     }
-    let e = wide(r.subordinate);
+    let e = long(r.subordinate);
     if e < b {
         return Route::NotRouted;
     }

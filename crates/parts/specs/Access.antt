@@ -6,21 +6,19 @@ use lib.Dec.{ltb, eqb}
 use Rattle.parts.specs.declared.ConfigSlot.{ConfigSlot}
 use Rattle.parts.specs.declared.Core.{Core}
 use Rattle.verdict.specs.declared.Cause.the-variants.{Timeout, UnsupportedRequest, RequestRetry, CompleterAbort, Poison}
-use Rattle.parts.specs.Cores.{tagCount, withRegisters, withConfig}
+use Rattle.parts.specs.Sizes.{slotFree, slotOpen}
+pub use Rattle.parts.specs.Sizes.{areaSize}
+use Rattle.parts.specs.Cores.{tagCount, withRegisters, withConfig, doneConfig}
 use Rattle.verdict.specs.Verdict.{slverr, okay}
 use Rattle.verdict.specs.declared.Verdict.{Verdict}
 use Rattle.verdict.specs.declared.Verdict.the-variants.{Unexpected, Good, Poisoned, Failed}
-use Rattle.common.specs.Tests.{firstOf}
+use Rattle.refusals.specs.Table.{refusedBy, configOrder}
 use Rattle.ecam.specs.Request.{dataWord}
 use Rattle.tags.specs.Tags.{available}
 use Rattle.ecam.specs.declared.Route.{Route}
 use Rattle.ecam.specs.declared.Route.the-variants.{OutOfRange, Local, Type0, Type1, NotRouted, DeviceNotZero}
 use Rattle.ecam.specs.Route.{numberOf}
 use Rattle.ecam.specs.Registers.{localRead, localWrite}
-
--- 'The lent sending area must hold 4,608 bytes'
-abbrev pub areaSize : ℕ
-areaSize = 4608
 
 -- what a configuration call is given
 pub record Access : Type 0 where
@@ -44,30 +42,25 @@ goesOut DeviceNotZero = false
 -- order: configuration 8, 5, 9, 10, 11, 4, 7, 'where a local access stops after 9'
 unfoldable pub configNumber : Core → Route → ℕ → ℕ
 configNumber c x room =
-    firstOf
-    ((ltb room areaSize, 8)
-    ∷ (not (eqb (c .config .state) 0), 5)
-    ∷ (not (eqb (numberOf x) 0), numberOf x)
-    ∷ (goesOut x && not (c .registers .link), 4)
-    ∷ (goesOut x && eqb (available tagCount (c .free)) 0, 7)
+    refusedBy (configOrder (numberOf x))
+    (ltb room areaSize
+    ∷ not (eqb (c .config .state) slotFree)
+    ∷ not (eqb (numberOf x) 0)
+    ∷ (goesOut x && not (c .registers .link))
+    ∷ (goesOut x && eqb (available tagCount (c .free)) 0)
     ∷ [])
 
 -- 'finishes at once in the configuration slot, as OKAY'; the data word 'is 0 for writes'
 unfoldable pub localCore : Core → Access → ℕ → Core
 localCore c a w =
     withRegisters (cond (a .write) (localWrite (c .registers) w (a .strobes) (a .word)) (c .registers))
-    (withConfig (record {
-      state = 2;
-      write = a .write;
-      response = okay;
-      word = cond (a .write) 0 (localRead (c .registers) w);
-    }) c)
+    (withConfig (doneConfig (a .write) okay (cond (a .write) 0 (localRead (c .registers) w))) c)
 
 -- ---- its slot
 
 -- finished
 abbrev pub configDone : ConfigSlot → ℕ → ℕ → ConfigSlot
-configDone c code word = record { state = 2; write = c .write; response = code; word = word }
+configDone c code word = doneConfig (c .write) code word
 
 -- 'UR read gives OKAY and all ones; UR write SLVERR. CRS, CA, poison, timeout: SLVERR, data 0'
 unfoldable pub configAnswer : ConfigSlot → List ℕ → Verdict → ConfigSlot
@@ -82,4 +75,4 @@ configAnswer c payload (Failed Timeout) = configDone c slverr 0
 
 -- 'Link going down .. finishes each open access as SLVERR with zero data'
 abbrev pub dropConfig : ConfigSlot → ConfigSlot
-dropConfig c = cond (eqb (c .state) 1) (configDone c slverr 0) c
+dropConfig c = cond (eqb (c .state) slotOpen) (configDone c slverr 0) c

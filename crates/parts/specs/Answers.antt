@@ -1,28 +1,27 @@
 -- What an answer holds, and what a refusal changes.
 use Prim.Native.Nat.{ℕ}
-use mathlib.Core.Bool.{cond, _||_}
+use mathlib.Core.Bool.{cond}
 use lib.Dec.{eqb}
 use Rattle.parts.specs.declared.Core.{Core}
 use Rattle.parts.specs.Cores.{raisedCore}
 use Rattle.parts.specs.declared.Answer.{Answer}
 use Rattle.verdict.specs.Verdict.{okay, decerr}
-use Rattle.parts.specs.declared.Response.the-variants.{Nothing, Okay, Slverr, Decerr, Wait}
-use Rattle.parts.specs.declared.Response.{Response}
+use Rattle.refusals.specs.declared.Response.the-variants.{Nothing, Okay, Slverr, Decerr}
+use Rattle.refusals.specs.declared.Response.{Response}
+use Rattle.refusals.specs.Table.{Change, keeps, sets, changeOf}
+unfoldable pub use Rattle.refusals.specs.Table.{refusalResponse}
 
 -- the response of AXI's coding
 unfoldable pub responseOf : ℕ → Response
 responseOf code = cond (eqb code okay) Okay (cond (eqb code decerr) Decerr Slverr)
 
--- the response column of the refusal table
-unfoldable pub refusalResponse : ℕ → Response
-refusalResponse n =
-    cond (eqb n 2 || eqb n 9) Decerr
-    (cond (eqb n 3 || eqb n 4 || eqb n 10 || eqb n 11 || eqb n 15) Slverr
-    (cond (eqb n 5 || eqb n 6 || eqb n 7) Wait Nothing))
+-- what a row of the refusal table changes in the core
+abbrev pub changed : Change → Core → Core
+changed keeps c = c
+changed (sets i) c = raisedCore i c
 
--- its change column: 3 sets bit 25, 13 bit 21
 unfoldable pub refusalChange : ℕ → Core → Core
-refusalChange n c = cond (eqb n 3) (raisedCore 25 c) (cond (eqb n 13) (raisedCore 21 c) c)
+refusalChange n c = changed (changeOf n) c
 
 -- 'A refused call reports sent length, slot and data word 0'
 unfoldable pub refusal : ℕ → Answer

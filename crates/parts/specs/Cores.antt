@@ -4,11 +4,10 @@ use mathlib.Core.Bool.{Bool, false}
 use Rattle.ecam.specs.declared.Registers.{Registers}
 use Rattle.parts.specs.declared.ConfigSlot.{ConfigSlot}
 use Rattle.parts.specs.declared.Core.{Core}
-use Rattle.ecam.specs.Registers.{fresh, raised, withDecode}
-
--- how many tags there are
-abbrev pub tagCount : ℕ
-tagCount = 32
+use Rattle.ecam.specs.Registers.{fresh, raised, withDecode, withLink}
+use Rattle.verdict.specs.Verdict.{okay}
+use Rattle.parts.specs.Sizes.{slotFree, slotOpen, slotFinished}
+pub use Rattle.parts.specs.Sizes.{tagCount}
 
 -- ---- one part put anew
 
@@ -28,10 +27,20 @@ withConfig x c = record { registers = c .registers; ticks = c .ticks; free = c .
 unfoldable pub raisedCore : ℕ → Core → Core
 raisedCore i c = withRegisters (withDecode (c .registers) (raised (c .registers .decode) i)) c
 
--- ---- a fresh core
+-- ---- the configuration slot: free, open for an access, and finished
 
 abbrev pub freeConfig : ConfigSlot
-freeConfig = record { state = 0; write = false; response = 0; word = 0 }
+freeConfig = record { state = slotFree; write = false; response = okay; word = 0 }
+
+-- a routed access waits
+abbrev pub openConfig : Bool → ConfigSlot
+openConfig write = record { state = slotOpen; write = write; response = okay; word = 0 }
+
+-- an access is finished with a response and a data word
+abbrev pub doneConfig : Bool → ℕ → ℕ → ConfigSlot
+doneConfig write code word = record { state = slotFinished; write = write; response = code; word = word }
+
+-- ---- a fresh core
 
 -- 'its link down, all registers and the tick counter zero, 32 free tags .. and one free configuration slot'
 unfoldable pub freshCore : Core
@@ -39,17 +48,5 @@ freshCore = record { registers = fresh; ticks = 0; free = 2 ^ tagCount - 1; conf
 
 -- ---- the link
 
-abbrev pub withLink : Bool → Registers → Registers
-withLink up r =
-    record {
-      primary = r .primary;
-      secondary = r .secondary;
-      subordinate = r .subordinate;
-      disable = r .disable;
-      decode = r .decode;
-      mask = r .mask;
-      link = up;
-    }
-
 abbrev pub linkIn : Bool → Core → Core
-linkIn up c = withRegisters (withLink up (c .registers)) c
+linkIn up c = withRegisters (withLink (c .registers) up) c

@@ -4,11 +4,9 @@ use mathlib.Core.List.{List, [], _∷_}
 use mathlib.Core.Bool.{cond, not}
 use lib.ListN.{getD}
 use lib.Dec.{ltb, eqb}
-use Rattle.common.specs.Tests.{firstOf}
-
--- 'a lent store of at least 32,768 bytes'; slot k's bytes 'lie from 4,096k'
-abbrev pub storeSize : ℕ
-storeSize = 32768
+use Rattle.refusals.specs.Table.{refusedBy, takeOrder}
+use Rattle.parts.specs.Sizes.{slotCount, slotFree, slotOpen, slotFinished, configSlot}
+pub use Rattle.parts.specs.Sizes.{storeSize}
 
 -- 'A 32-bit tick counter starts again at zero after its last value'
 abbrev pub nextTick : ℕ → ℕ
@@ -21,12 +19,12 @@ ageOf now then = (now + (2 ^ 32 - then)) % 2 ^ 32
 -- the first of n slots from k on that is free
 unfoldable pub freeSlotFrom : List ℕ → ℕ → ℕ → ℕ
 freeSlotFrom states k zero = k
-freeSlotFrom states k (suc n) = cond (eqb (getD states k 1) 0) k (freeSlotFrom states (suc k) n)
+freeSlotFrom states k (suc n) = cond (eqb (getD states k slotOpen) slotFree) k (freeSlotFrom states (suc k) n)
 
 -- 'Slot 8 is the configuration slot'; past it there is no slot
 unfoldable pub stateIn : ℕ → List ℕ → ℕ → ℕ
-stateIn config states k = cond (eqb k 8) config (cond (ltb k 8) (getD states k 0) 0)
+stateIn config states k = cond (eqb k configSlot) config (cond (ltb k slotCount) (getD states k slotFree) slotFree)
 
 -- order: take 8, 14; 'nothing finished there to take, or no such slot'
 unfoldable pub takeNumber : ℕ → ℕ → ℕ
-takeNumber room found = firstOf ((ltb room storeSize, 8) ∷ (not (eqb found 2), 14) ∷ [])
+takeNumber room found = refusedBy takeOrder (ltb room storeSize ∷ not (eqb found slotFinished) ∷ [])

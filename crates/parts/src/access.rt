@@ -1,14 +1,24 @@
 // The configuration slot: what refuses an access, and what it holds when one is finished.
+use crate::AREA_SIZE;
 use crate::ConfigSlot;
 use crate::Core;
+use crate::FINISHED;
+use crate::FREE;
+use crate::OPEN;
 use crate::answers::raise_in;
+use common::CFG_TIMEOUT;
 use ecam::Route;
+use refusals::CONFIG_BUSY;
+use refusals::FEW_TAGS;
+use refusals::LINK_DOWN;
+use refusals::TOO_SHORT;
 use verdict::Cause;
 use verdict::Verdict;
 ghost use Prim.Native.Nat.{ℕ};
 ghost use mathlib.Core.List.{List};
 ghost use mathlib.Core.Bool.{cond};
 ghost use Rattle.parts.specs.Cores.{withConfig, raisedCore, freeConfig};
+ghost use Rattle.common.specs.Decode.{cfgTimeout};
 ghost use Rattle.verdict.specs.Verdict.{slverr};
 ghost use Rattle.parts.specs.Access.{configDone, goesOut, configNumber, accessOf, localCore, dropConfig, configAnswer};
 ghost use mathlib.Core.Path.{_≡_};
@@ -33,13 +43,13 @@ pub fn goes_out(x: Route) -> bool
 pub fn config_number(c: Core, x: Route, room: usize) -> u32
     ensures { λ r. ⌜ r ≡ configNumber c x room ⌝ }
 {
-    if room < 4608 {
-        return 8;
+    if room < AREA_SIZE {
+        return TOO_SHORT;
     }
     let number = ecam::number_of(x);
     let config = c.config;
-    if config.state != 0 {
-        return 5;
+    if config.state != FREE {
+        return CONFIG_BUSY;
     }
     if number != 0 {
         return number;
@@ -47,10 +57,10 @@ pub fn config_number(c: Core, x: Route, room: usize) -> u32
     let out = goes_out(x);
     let registers = c.registers;
     if out & !registers.link {
-        return 4;
+        return LINK_DOWN;
     }
     if out & (tags::available(c.free) == 0) {
-        return 7;
+        return FEW_TAGS;
     }
     0
 }
@@ -64,7 +74,7 @@ pub fn local_core(c: Core, offset: u64, write: bool, strobes: u32, word: u32, w:
     if write {
         d.registers = ecam::local_write(registers, w, strobes, word);
         let config = ConfigSlot {
-            state: 2,
+            state: FINISHED,
             write: true,
             response: 0,
             word: 0,
@@ -74,7 +84,7 @@ pub fn local_core(c: Core, offset: u64, write: bool, strobes: u32, word: u32, w:
     }
     let shown = ecam::local_read(registers, w);
     let config = ConfigSlot {
-        state: 2,
+        state: FINISHED,
         write: false,
         response: 0,
         word: shown,
@@ -88,7 +98,7 @@ pub fn config_done(c: ConfigSlot, code: u32, word: u32) -> ConfigSlot
     ensures { λ r. ⌜ r ≡ configDone c code word ⌝ }
 {
     ConfigSlot {
-        state: 2,
+        state: FINISHED,
         write: c.write,
         response: code,
         word: word,
@@ -140,27 +150,27 @@ pub fn config_answer(c: ConfigSlot, payload: &[u8], v: Verdict) -> ConfigSlot
 
 // The configuration access is finished as SLVERR with zero data, and bit 8 is set.
 pub fn config_timeout(c: Core) -> Core
-    ensures { λ r. ⌜ r ≡ raisedCore 8 (withConfig (configDone (c .config) slverr 0) c) ⌝ }
+    ensures { λ r. ⌜ r ≡ raisedCore cfgTimeout (withConfig (configDone (c .config) slverr 0) c) ⌝ }
 {
     let config = c.config;
     let done = ConfigSlot {
-        state: 2,
+        state: FINISHED,
         write: config.write,
         response: 2,
         word: 0,
     };
     let mut d = c;
     d.config = done;
-    raise_in(d, 8)
+    raise_in(d, CFG_TIMEOUT)
 }
 
 // An open access is finished when the link goes down.
 pub fn drop_config(c: ConfigSlot) -> ConfigSlot
     ensures { λ r. ⌜ r ≡ dropConfig c ⌝ }
 {
-    if c.state == 1 {
+    if c.state == OPEN {
         return ConfigSlot {
-            state: 2,
+            state: FINISHED,
             write: c.write,
             response: 2,
             word: 0,
@@ -174,7 +184,7 @@ pub fn free_config() -> ConfigSlot
     ensures { λ r. ⌜ r ≡ freeConfig ⌝ }
 {
     ConfigSlot {
-        state: 0,
+        state: FREE,
         write: false,
         response: 0,
         word: 0,

@@ -2,9 +2,14 @@
 use crate::Answer;
 use crate::Core;
 use crate::Done;
-use crate::Response;
+use common::SLAVE_ILLEGAL_BURST;
+use common::SLAVE_UNEXPECTED_COMPLETION;
+use refusals::Response;
+use refusals::UNEXPECTED;
+use refusals::WRONG_BURST;
+use refusals::refusal_response;
 ghost use Rattle.parts.specs.Cores.{raisedCore};
-ghost use Rattle.parts.specs.Answers.{plain, accepted, refusal, refusalChange, responseOf, refusalResponse};
+ghost use Rattle.parts.specs.Answers.{plain, accepted, refusal, refusalChange, responseOf};
 ghost use mathlib.Core.Path.{_≡_};
 
 // A decode bit is set.
@@ -31,31 +36,15 @@ pub fn response_of(code: u32) -> Response
     Response::Slverr
 }
 
-// The response column of the refusal table.
-pub fn refusal_response(n: u32) -> Response
-    ensures { λ r. ⌜ r ≡ refusalResponse n ⌝ }
-{
-    if (n == 2) | (n == 9) {
-        return Response::Decerr;
-    }
-    if (n == 3) | (n == 4) | (n == 10) | (n == 11) | (n == 15) {
-        return Response::Slverr;
-    }
-    if (n == 5) | (n == 6) | (n == 7) {
-        return Response::Wait;
-    }
-    Response::Nothing
-}
-
 // The change column of the refusal table.
 pub fn refusal_change(n: u32, c: Core) -> Core
     ensures { λ r. ⌜ r ≡ refusalChange n c ⌝ }
 {
-    if n == 3 {
-        return raise_in(c, 25);
+    if n == WRONG_BURST {
+        return raise_in(c, SLAVE_ILLEGAL_BURST);
     }
-    if n == 13 {
-        return raise_in(c, 21);
+    if n == UNEXPECTED {
+        return raise_in(c, SLAVE_UNEXPECTED_COMPLETION);
     }
     c
 }

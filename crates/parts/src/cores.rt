@@ -3,27 +3,20 @@ use crate::Core;
 use crate::access::drop_config;
 use crate::access::free_config;
 use crate::answers::raise_in;
-use ecam::Registers;
+use common::LINK_DOWN_BIT;
+use ecam::fresh_registers;
 ghost use Prim.Native.Nat.{_-_, _^_};
 ghost use mathlib.Core.Bool.{false};
 ghost use Rattle.parts.specs.Cores.{tagCount, withFree, withConfig, raisedCore, freshCore, linkIn};
+ghost use Rattle.common.specs.Decode.{linkDownBit};
 ghost use mathlib.Core.Path.{_≡_};
 ghost use Rattle.parts.specs.Access.{dropConfig};
 
 pub fn fresh_core() -> Core
     ensures { λ r. ⌜ r ≡ freshCore ⌝ }
 {
-    let registers = Registers {
-        primary: 0,
-        secondary: 0,
-        subordinate: 0,
-        disable: false,
-        decode: 0,
-        mask: 0,
-        link: false,
-    };
     Core {
-        registers: registers,
+        registers: fresh_registers(),
         ticks: 0,
         free: 0xFFFF_FFFF,
         config: free_config(),
@@ -42,11 +35,11 @@ pub fn with_link(c: Core, up: bool) -> Core
 
 // Every tag is free, an open configuration access is finished, bit 0 is set.
 pub fn lost_core(c: Core) -> Core
-    ensures { λ r. ⌜ r ≡ raisedCore 0 (linkIn false (withFree (2 ^ tagCount - 1) (withConfig (dropConfig (c .config)) c))) ⌝ }
+    ensures { λ r. ⌜ r ≡ raisedCore linkDownBit (linkIn false (withFree (2 ^ tagCount - 1) (withConfig (dropConfig (c .config)) c))) ⌝ }
 {
     let config = c.config;
     let mut d = c;
     d.config = drop_config(config);
-    d.free = 4294967295;
-    raise_in(with_link(d, false), 0)
+    d.free = 0xFFFF_FFFF;
+    raise_in(with_link(d, false), LINK_DOWN_BIT)
 }

@@ -1,10 +1,9 @@
 -- The tags 0 to n - 1. A word has a one at each that is free.
 use Prim.Native.Nat.{ℕ, zero, suc}
-use mathlib.Core.List.{List, [], _∷_, _++_}
+use mathlib.Core.List.{List, [], _∷_}
 use mathlib.Core.Bool.{cond}
-use lib.ListN.{length, getD, take, drop, replicate}
+use lib.ListN.{length, getD, take}
 use Rattle.bits.specs.Bits.{isSet, clearBit}
-use Rattle.tags.specs.declared.Grant.{Grant}
 
 -- the free ones of the m tags from k on, in rising order
 unfoldable pub freeFrom : ℕ → ℕ → ℕ → List ℕ
@@ -31,12 +30,3 @@ without w (t ∷ ts) = without (clearBit w t) ts
 -- the k lowest free tags, or all of them where there are fewer
 abbrev pub lowestFew : ℕ → ℕ → ℕ → List ℕ
 lowestFew n w k = take k (freeTags n w)
-
--- what taking k at once hands out: the tags, at the front of a row of n, how many they are, and the word that is left
-unfoldable pub grant : ℕ → ℕ → ℕ → Grant
-grant n w k =
-    record {
-      free = without w (lowestFew n w k);
-      tags = lowestFew n w k ++ drop (length (lowestFew n w k)) (replicate n 0);
-      count = length (lowestFew n w k);
-    }

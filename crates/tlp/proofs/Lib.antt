@@ -6,3 +6,4 @@ pub mod Codec
 pub mod Reading
 pub mod Writing
 pub mod Ranges
+pub mod Short

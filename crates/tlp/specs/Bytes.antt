@@ -4,7 +4,7 @@ use mathlib.Core.List.{List, [], _∷_, _++_}
 use mathlib.Core.Bool.{Bool, true, false, cond, not}
 use lib.ListN.{length, getD, drop}
 use lib.Dec.{ltb, eqb}
-use Rattle.common.specs.Tests.{firstOf}
+use Rattle.refusals.specs.Table.{refusedBy, headerOrder}
 use Rattle.tlp.specs.declared.Written.{Written}
 
 -- the n bytes of x
@@ -34,9 +34,9 @@ orFull full field = cond (eqb field 0) full field
 abbrev pub lengthIn : ℕ → ℕ
 lengthIn field = orFull 1024 field
 
--- a header writer's refusals, in order: 8, an area of less than 16 bytes; 12, a value outside its ranges
+-- a header writer's refusals, in order: an area of less than 16 bytes; a value outside its ranges
 abbrev pub writeRefusal : ℕ → Bool → ℕ
-writeRefusal room valid = firstOf ((ltb room 16, 8) ∷ (not valid, 12) ∷ [])
+writeRefusal room valid = refusedBy headerOrder (ltb room 16 ∷ not valid ∷ [])
 
 -- what a writer answers, with the header's bytes at hand
 unfoldable pub writeHeader : ℕ → Bool → List ℕ → Written

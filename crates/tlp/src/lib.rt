@@ -1,5 +1,6 @@
 // Headers of transaction layer packets (TLPs): requests and completions as values, their readers and writers.
 pub mod completion;
+pub mod packet;
 pub mod request;
 
 ghost use mathlib.Core.Path.{_≡_};

@@ -1,7 +1,11 @@
 // What a completion does to the piece whose tag it has: a decision on numbers, which knows no bridge.
+use common::SLAVE_COMPLETER_ABORT;
+use common::SLAVE_COMPLETION_TIMEOUT;
+use common::SLAVE_ERROR_POISON;
+use common::SLAVE_UNSUPPORTED_REQUEST;
+use common::long;
 use tlp::completion::Completion;
 ghost use mathlib.Core.Path.{_≡_};
-ghost use Prim.Native.Nat.{_<_, _^_};
 ghost use Rattle.verdict.specs.Verdict.{isOpen, isUnexpected, causeOf, useful, inOrder, received, memoryVerdict, configShape, configVerdict, causeResponse, causeBit};
 
 // Why a piece failed: UR, CRS or CA, poisoned data, no completion in time.
@@ -19,13 +23,6 @@ pub enum Verdict {
     Good(u32),
     Poisoned(u32),
     Failed(Cause),
-}
-
-// A number to add to others of its kind.
-pub fn long(x: u32) -> u64
-    ensures { λ r. ⌜ (r ≡ x) × (x < 2 ^ 32) ⌝ }
-{
-    x as u64
 }
 
 // A tag is open while bytes are missing, which lie in a slot's 4,096.
@@ -65,11 +62,11 @@ pub fn cause_bit(cause: Cause) -> u32
     ensures { λ r. ⌜ r ≡ causeBit cause ⌝ }
 {
     match cause {
-        Cause::UnsupportedRequest => 20,
-        Cause::RequestRetry => 20,
-        Cause::CompleterAbort => 24,
-        Cause::Poison => 23,
-        Cause::Timeout => 22,
+        Cause::UnsupportedRequest => SLAVE_UNSUPPORTED_REQUEST,
+        Cause::RequestRetry => SLAVE_UNSUPPORTED_REQUEST,
+        Cause::CompleterAbort => SLAVE_COMPLETER_ABORT,
+        Cause::Poison => SLAVE_ERROR_POISON,
+        Cause::Timeout => SLAVE_COMPLETION_TIMEOUT,
     }
 }
 

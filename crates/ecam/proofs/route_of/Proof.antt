@@ -14,8 +14,8 @@ returns c = rw (← c .before .out-of-range .ensures, c .if1 .taken)
 bus-requires : tie.Need-bus-requires
 bus-requires c κs = search needs
 
-wide-requires : tie.Need-wide-requires
-wide-requires c κs = search needs
+long-requires : tie.Need-long-requires
+long-requires c κs = search needs
 
 word-requires : tie.Need-word-requires
 word-requires c κs = search needs
@@ -27,13 +27,13 @@ returns-2 c =
       ← c .before .before .before .before .before .out-of-range .ensures,
       c .before .before .before .before .if1 .left,
       ← c .before .before .before .bus .ensures,
-      ← c .before .before .wide .ensures,
+      ← c .before .before .long .ensures .0,
       eq-eqb _ _ (c .before .if2 .taken),
       c .word .ensures,
     )
 
-wide-requires-2 : tie.Need-wide-requires-2
-wide-requires-2 c κs = search needs
+long-requires-2 : tie.Need-long-requires-2
+long-requires-2 c κs = search needs
 
 returns-3 : tie.Need-returns-3
 unfolding route
@@ -42,14 +42,14 @@ returns-3 c =
       ← c .before .before .before .before .before .before .out-of-range .ensures,
       c .before .before .before .before .before .if1 .left,
       ← c .before .before .before .before .bus .ensures,
-      ← c .before .before .before .wide .ensures,
+      ← c .before .before .before .long .ensures .0,
       ne-eqb _ _ (c .before .before .if2 .left),
-      ← c .before .wide2 .ensures,
+      ← c .before .long2 .ensures .0,
       lt-leb _ _ (c .if3 .taken),
     )
 
-wide-requires-3 : tie.Need-wide-requires-3
-wide-requires-3 c κs = search needs
+long-requires-3 : tie.Need-long-requires-3
+long-requires-3 c κs = search needs
 
 returns-4 : tie.Need-returns-4
 unfolding route
@@ -58,11 +58,11 @@ returns-4 c =
       ← c .before .before .before .before .before .before .before .before .out-of-range .ensures,
       c .before .before .before .before .before .before .before .if1 .left,
       ← c .before .before .before .before .before .before .bus .ensures,
-      ← c .before .before .before .before .before .wide .ensures,
+      ← c .before .before .before .before .before .long .ensures .0,
       ne-eqb _ _ (c .before .before .before .before .if2 .left),
-      ← c .before .before .before .wide2 .ensures,
+      ← c .before .before .before .long2 .ensures .0,
       le-leb _ _ (c .before .before .if3 .left),
-      ← c .before .wide3 .ensures,
+      ← c .before .long3 .ensures .0,
       lt-leb _ _ (c .if4 .taken),
     )
 
@@ -76,11 +76,11 @@ returns-5 c =
       ← c .before .before .before .before .before .before .before .before .before .before .out-of-range .ensures,
       c .before .before .before .before .before .before .before .before .before .if1 .left,
       ← c .before .before .before .before .before .before .before .before .bus .ensures,
-      ← c .before .before .before .before .before .before .before .wide .ensures,
+      ← c .before .before .before .before .before .before .before .long .ensures .0,
       ne-eqb _ _ (c .before .before .before .before .before .before .if2 .left),
-      ← c .before .before .before .before .before .wide2 .ensures,
+      ← c .before .before .before .before .before .long2 .ensures .0,
       le-leb _ _ (c .before .before .before .before .if3 .left),
-      ← c .before .before .before .wide3 .ensures,
+      ← c .before .before .before .long3 .ensures .0,
       le-leb _ _ (c .before .before .if4 .left),
       ← c .before .device .ensures,
       ne-eqb _ _ (c .if5 .taken),
@@ -93,11 +93,11 @@ returns-6 c =
       ← c .before .before .before .before .before .before .before .before .before .before .before .out-of-range .ensures,
       c .before .before .before .before .before .before .before .before .before .before .if1 .left,
       ← c .before .before .before .before .before .before .before .before .before .bus .ensures,
-      ← c .before .before .before .before .before .before .before .before .wide .ensures,
+      ← c .before .before .before .before .before .before .before .before .long .ensures .0,
       ne-eqb _ _ (c .before .before .before .before .before .before .before .if2 .left),
-      ← c .before .before .before .before .before .before .wide2 .ensures,
+      ← c .before .before .before .before .before .before .long2 .ensures .0,
       le-leb _ _ (c .before .before .before .before .before .if3 .left),
-      ← c .before .before .before .before .wide3 .ensures,
+      ← c .before .before .before .before .long3 .ensures .0,
       le-leb _ _ (c .before .before .before .if4 .left),
       ← c .before .before .device .ensures,
       eq-eqb _ _ (c .before .if5 .left),
@@ -111,11 +111,11 @@ returns-7 c =
       ← c .before .before .before .before .before .before .before .before .before .before .before .out-of-range .ensures,
       c .before .before .before .before .before .before .before .before .before .before .if1 .left,
       ← c .before .before .before .before .before .before .before .before .before .bus .ensures,
-      ← c .before .before .before .before .before .before .before .before .wide .ensures,
+      ← c .before .before .before .before .before .before .before .before .long .ensures .0,
       ne-eqb _ _ (c .before .before .before .before .before .before .before .if2 .left),
-      ← c .before .before .before .before .before .before .wide2 .ensures,
+      ← c .before .before .before .before .before .before .long2 .ensures .0,
       le-leb _ _ (c .before .before .before .before .before .if3 .left),
-      ← c .before .before .before .before .wide3 .ensures,
+      ← c .before .before .before .before .long3 .ensures .0,
       le-leb _ _ (c .before .before .before .if4 .left),
       ← c .before .before .device .ensures,
       eq-eqb _ _ (c .before .if5 .left),
@@ -129,12 +129,12 @@ route-of-spec =
     out-of-range-requires
     returns
     bus-requires
-    wide-requires
+    long-requires
     word-requires
     returns-2
-    wide-requires-2
+    long-requires-2
     returns-3
-    wide-requires-3
+    long-requires-3
     returns-4
     device-requires
     returns-5

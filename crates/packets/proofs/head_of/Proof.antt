@@ -8,15 +8,12 @@ use Rattle.packets.proofs.head_of.Reads as reads
 use Rattle.packets.proofs.head_of.Lts as lts
 use Rattle.tlp.proofs.request.write_request.Reads as write-request-reads
 
--- src/lib.rt:153:30
 slice-aggregate-write-request : tie.Need-slice-aggregate-write-request
 slice-aggregate-write-request c = search needs
 
--- src/lib.rt:153:9
 write-request-requires : tie.Need-write-request-requires
 write-request-requires c κs = search needs
 
--- src/lib.rt:149:1
 returns : tie.Need-returns
 returns c = headed (c .before .before .before .args .q) _ (c .before .write-request .result) (c .before .write-request .last .1 .0) refl (c .before .write-request .ensures .0) (c .before .write-request .ensures .1)
 

@@ -9,23 +9,18 @@ use Rattle.burst.proofs.last_enables.Reads as last-enables-reads
 use Rattle.burst.proofs.word_address.Reads as word-address-reads
 use Rattle.burst.proofs.word_count.Reads as word-count-reads
 
--- src/lib.rt:134:32
 word-address-requires : tie.Need-word-address-requires
 word-address-requires c κs = search needs
 
--- src/lib.rt:135:17
 word-count-requires : tie.Need-word-count-requires
 word-count-requires c κs = search needs
 
--- src/lib.rt:138:15
 last-enables-requires : tie.Need-last-enables-requires
 last-enables-requires c κs = search needs
 
--- src/lib.rt:139:16
 first-enables-requires : tie.Need-first-enables-requires
 first-enables-requires c κs = search needs
 
--- src/lib.rt:129:1
 returns : tie.Need-returns
 unfolding memoryRequest
 returns c = rw (c .before .before .before .word-address .ensures, c .before .before .word-count .ensures, c .before .last-enables .ensures, c .first-enables .ensures)

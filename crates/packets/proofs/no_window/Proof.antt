@@ -5,23 +5,18 @@ use Rattle.packets.proofs.no_window.Reads as reads
 use Rattle.packets.proofs.no_window.Lts as lts
 use Rattle.address.proofs.find_window.Reads as find-window-reads
 
--- src/lib.rt:60:9
 find-window-requires : tie.Need-find-window-requires
 find-window-requires c κs = search needs
 
--- src/lib.rt:62:25
 enum-told : tie.Need-enum-told
 enum-told c = search needs
 
--- src/lib.rt:63:27
 enum-told-2 : tie.Need-enum-told-2
 enum-told-2 c = search needs
 
--- src/lib.rt:57:1
 returns : tie.Need-returns
 returns c = rw (← c .before .before .find-window .ensures .0, c .enum-told .given .1)
 
--- src/lib.rt:57:1
 returns-2 : tie.Need-returns-2
 returns-2 c = rw (← c .before .before .find-window .ensures .0, c .enum-told2 .given .1)
 

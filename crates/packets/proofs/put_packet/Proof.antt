@@ -23,15 +23,12 @@ use Rattle.burst.proofs.word_count.Reads as word-count-reads
 use Rattle.common.proofs.copy_at.Reads as copy-at-reads
 use Rattle.common.proofs.index.Reads as index-reads
 
--- src/lib.rt:331:21
 memory-request-requires : tie.Need-memory-request-requires
 memory-request-requires c κs = search needs
 
--- src/lib.rt:331:9
 head-of-requires : tie.Need-head-of-requires
 head-of-requires c κs = search needs
 
--- src/lib.rt:334:9
 returns : tie.Need-returns
 returns c =
     let a = c .before .before .before .before .before .args in
@@ -40,27 +37,21 @@ returns c =
     let z : length (packet r []) ≡ 0 = sym (c .before .head-of .ensures .1 .0 ∙ ap (λ x. length (packet x [])) (c .before .before .memory-request .ensures)) ∙ c .if1 .taken in
     put-none (now (a .area)) (a .at) (packet r w) (omega (arith, c .before .before .before .before .before .pre .1 .1)) (no-header r w z)
 
--- src/lib.rt:336:32
 word-count-requires : tie.Need-word-count-requires
 word-count-requires c κs = search needs
 
--- src/lib.rt:336:26
 index-requires : tie.Need-index-requires
 index-requires c κs = search needs
 
--- src/lib.rt:336:22
 mul-need : tie.Need-mul-need
 mul-need c = search needs
 
--- src/lib.rt:336:16
 add-need : tie.Need-add-need
 add-need c = search needs
 
--- src/lib.rt:337:8
 sub-if2 : tie.Need-sub-if2
 sub-if2 c = search needs
 
--- src/lib.rt:338:9
 returns-2 : tie.Need-returns-2
 returns-2 c =
     let a = c .before .before .before .before .before .before .before .before .args in
@@ -71,11 +62,9 @@ returns-2 c =
     let p = packet-length (a .a .0) (a .n) (a .from) (now (a .bytes)) (c .before .before .before .before .before .before .before .before .pre .0) r (c .before .before .before .before .head-of .result .length) e (c .before .before .before .if1 .left) in
     put-out (now (a .area)) (a .at) (packet r w) (omega (arith, p, i, c .if2 .taken, c .before .before .before .before .before .before .before .before .pre .1 .1))
 
--- src/lib.rt:341:23
 slice-aggregate-copy-at : tie.Need-slice-aggregate-copy-at
 slice-aggregate-copy-at c = search needs
 
--- src/lib.rt:341:5
 copy-at-requires : tie.Need-copy-at-requires
 copy-at-requires c κs =
     let a = c .before .before .before .before .before .before .before .before .before .before .before .args in
@@ -86,15 +75,12 @@ copy-at-requires c κs =
     let l : length (c .before .before .before .before .before .before .before .head-of .result .bytes) ≡ 16 = search (needs, c .before .before .before .before .before .before .before .head-of .ok) in
     (omega (arith, i, c .before .before .before .if2 .left, c .before .before .before .before .before .before .before .before .before .before .before .pre .1 .1, c .before .before .before .before .before .before .before .head-of .ensures .1 .1), omega (arith, l, c .before .before .before .before .before .before .before .head-of .ensures .1 .1))
 
--- src/lib.rt:342:21
 add-put-words : tie.Need-add-put-words
 add-put-words c = search needs
 
--- src/lib.rt:342:47
 index-requires-2 : tie.Need-index-requires-2
 index-requires-2 c κs = search needs
 
--- src/lib.rt:342:5
 put-words-requires : tie.Need-put-words-requires
 put-words-requires c κs =
     let a = c .before .before .before .before .before .before .before .before .before .before .before .before .before .before .before .before .args in
@@ -107,15 +93,12 @@ put-words-requires c κs =
     let k : wordCount (a .a .0) (c .index2 .result) ≡ wordCount (a .a .0) (a .n) = ap (wordCount (a .a .0)) (c .index2 .ensures .0) in
     (omega (arith, i, k, z, c .before .before .before .before .before .before .before .before .if2 .left, c .before .before .before .before .before .before .before .before .before .before .before .before .before .before .before .before .pre .1 .1), omega (arith, c .index2 .ensures .0, c .before .before .before .before .before .before .before .before .before .before .before .before .before .before .before .before .pre .0))
 
--- src/lib.rt:343:5
 add-result : tie.Need-add-result
 add-result c = omega (arith, c .before .before .before .before .before .before .before .before .before .before .before .if2 .left, c .before .before .before .before .before .before .before .before .before .before .before .before .before .before .before .before .before .before .before .good, c .before .before .before .before .before .before .before .before .before .before .before .before .before .before .before .before .before .before .before .pre .1 .1)
 
--- src/lib.rt:327:1
 same-length : tie.Need-same-length
 same-length c = search needs
 
--- src/lib.rt:327:1
 returns-3 : tie.Need-returns-3
 returns-3 c =
     let a = c .before .before .before .before .before .before .before .before .before .before .before .before .before .before .before .before .before .before .before .args in

@@ -9,51 +9,39 @@ use Rattle.packets.proofs.shift_of.Lts as lts
 use Rattle.address.proofs.find_window.Reads as find-window-reads
 use Rattle.common.proofs.index.Reads as index-reads
 
--- src/lib.rt:113:9
 find-window-requires : tie.Need-find-window-requires
 find-window-requires c κs = search needs
 
--- src/lib.rt:115:19
 enum-known-f : tie.Need-enum-known-f
 enum-known-f c = search needs
 
--- src/lib.rt:116:17
 index-requires : tie.Need-index-requires
 index-requires c κs = search needs
 
--- src/lib.rt:118:23
 mul-t9 : tie.Need-mul-t9
 mul-t9 c = search needs
 
--- src/lib.rt:118:23
 array-read-t12 : tie.Need-array-read-t12
 array-read-t12 c = let h = rw (c .before .before .f .given .1) at (c .before .before .before .before .find-window .ensures .1) in omega (arith, h, c .index .ensures .0)
 
--- src/lib.rt:119:25
 mul-t13 : tie.Need-mul-t13
 mul-t13 c = search needs
 
--- src/lib.rt:119:25
 array-read-t16 : tie.Need-array-read-t16
 array-read-t16 c = let h = rw (c .before .before .f .given .1) at (c .before .before .before .before .find-window .ensures .1) in omega (arith, h, c .index .ensures .0)
 
--- src/lib.rt:123:19
 enum-told : tie.Need-enum-told
 enum-told c = search needs
 
--- src/lib.rt:123:19
 array-read-t19 : tie.Need-array-read-t19
 array-read-t19 c = search needs
 
--- src/lib.rt:124:21
 array-read-t22 : tie.Need-array-read-t22
 array-read-t22 c = search needs
 
--- src/lib.rt:108:1
 returns : tie.Need-returns
 returns c = (rw (← c .before .before .before .before .find-window .ensures .0, c .before .before .f .given .1, c .index .ensures .0), rw (← c .before .before .before .before .find-window .ensures .0, c .before .before .f .given .1, c .index .ensures .0))
 
--- src/lib.rt:108:1
 returns-2 : tie.Need-returns-2
 returns-2 c = (rw (← c .before .before .find-window .ensures .0, c .enum-told .given .1), rw (← c .before .before .find-window .ensures .0, c .enum-told .given .1))
 

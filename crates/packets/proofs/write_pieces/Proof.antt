@@ -23,43 +23,33 @@ Inv-loop s q bytes area₀ shift n count at₀ k₀ area at k =
 abbrev μ-loop : tie.MeasureT-loop
 μ-loop s q bytes area₀ shift n count at₀ k₀ area at k = count - k
 
--- src/lib.rt:366:9
 shift-of-requires : tie.Need-shift-of-requires Inv-loop μ-loop
 shift-of-requires c κs = tt
 
--- src/lib.rt:367:9
 length-of-requires : tie.Need-length-of-requires Inv-loop μ-loop
 length-of-requires c κs = tt
 
--- src/lib.rt:368:9
 piece-count-requires : tie.Need-piece-count-requires Inv-loop μ-loop
 piece-count-requires c κs = tt
 
--- src/lib.rt:371:5
 loop-holds : tie.Need-loop-holds Inv-loop μ-loop
 loop-holds c = (zero-le, wrote-none (c .before .before .before .before .before .before .before .args .s) (c .before .before .before .before .before .before .before .args .q) (now (c .before .before .before .before .before .before .before .args .bytes)) (now (c .before .before .before .before .before .before .before .args .area)))
 
--- src/lib.rt:372:9
 write-turn-requires : tie.Need-write-turn-requires Inv-loop μ-loop
 write-turn-requires c κs = (c .before .before .before .before .length-of .ensures .0, (c .before .before .before .before .length-of .ensures .1 .0, (c .before .before .before .before .length-of .ensures .1 .1, (rw (← c .before .before .before .piece-count .ensures) (c .before .loop-test .taken), (omega (arith, c .before .before .before .before .length-of .ensures .0, c .before .before .before .before .before .before .before .before .before .before .pre), c .before .before .loop .inv .1 .at-fits)))))
 
--- src/lib.rt:373:9
 add-k : tie.Need-add-k Inv-loop μ-loop
 add-k c = omega (arith, c .before .before .before .before .loop-test .taken, c .before .before .before .before .before .before .piece-count .ok)
 
--- src/lib.rt:371:5
 loop-less : tie.Need-loop-less Inv-loop μ-loop
 loop-less c = omega (arith, c .before .before .before .before .loop-test .taken)
 
--- src/lib.rt:371:5
 loop-again : tie.Need-loop-again Inv-loop μ-loop
 loop-again c = (omega (arith, c .before .before .before .before .loop-test .taken), wrote-more (c .before .before .before .before .before .before .before .before .before .before .before .before .before .args .s) (c .before .before .before .before .before .before .before .before .before .before .before .before .before .args .q) (now (c .before .before .before .before .before .before .before .before .before .before .before .before .before .args .bytes)) (now (c .before .before .before .before .before .before .before .before .before .before .before .before .before .args .area)) (c .before .before .before .before .before .before .before .before .shift-of .result .base) (c .before .before .before .before .before .before .before .before .shift-of .result .target) (c .before .before .before .before .before .before .before .before .shift-of .ensures .0) (c .before .before .before .before .before .before .before .before .shift-of .ensures .1) (c .before .before .before .before .before .loop .area) (c .before .before .write-turn .last .1 .1 .1 .1 .1 .1 .1 .0) (c .before .before .before .before .before .loop .at) (c .before .before .write-turn .result) (c .before .before .before .before .before .loop .k) (c .before .before .before .before .before .loop .inv .1) (c .before .before .write-turn .ensures))
 
--- src/lib.rt:360:1
 same-length : tie.Need-same-length Inv-loop μ-loop
 same-length c = search needs
 
--- src/lib.rt:360:1
 returns : tie.Need-returns Inv-loop μ-loop
 returns c =
     let a = c .before .before .before .before .before .before .before .before .before .args in

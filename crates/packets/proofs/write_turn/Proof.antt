@@ -7,27 +7,21 @@ use Rattle.address.proofs.translate.Reads as translate-reads
 use Rattle.packets.proofs.put_packet.Reads as put-packet-reads
 use Rattle.burst.proofs.piece_at.Reads as piece-at-reads
 
--- src/lib.rt:353:9
 piece-at-requires : tie.Need-piece-at-requires
 piece-at-requires c κs = search needs
 
--- src/lib.rt:354:9
 translate-requires : tie.Need-translate-requires
 translate-requires c κs = search needs
 
--- src/lib.rt:355:17
 sub-from : tie.Need-sub-from
 sub-from c = search needs
 
--- src/lib.rt:356:5
 put-packet-requires : tie.Need-put-packet-requires
 put-packet-requires c κs = search needs
 
--- src/lib.rt:348:1
 same-length : tie.Need-same-length
 same-length c = search needs
 
--- src/lib.rt:348:1
 returns : tie.Need-returns
 returns c = rw (← c .before .before .before .before .before .before .before .before .before .before .before .pre .0, ← c .before .before .before .before .before .before .before .piece-at .ensures .0, ← c .before .before .before .before .before .before .translate .ensures) (c .before .before .put-packet .ensures)
 

@@ -4,11 +4,9 @@ use Rattle.tlp.proofs.length_in.Tie as tie
 use Rattle.tlp.proofs.length_in.Reads as reads
 use Rattle.tlp.proofs.length_in.Lts as lts
 
--- src/lib.rt:19:9
 returns : tie.Need-returns
 returns c = rw (eq-eqb _ _ (c .if1 .taken))
 
--- src/lib.rt:15:1
 returns-2 : tie.Need-returns-2
 returns-2 c = rw (ne-eqb _ _ (c .if1 .left))
 

@@ -4,15 +4,12 @@ use Rattle.verdict.proofs.cause_of.Tie as tie
 use Rattle.verdict.proofs.cause_of.Reads as reads
 use Rattle.verdict.proofs.cause_of.Lts as lts
 
--- src/lib.rt:29:9
 returns : tie.Need-returns
 returns c = rw (eq-eqb _ _ (c .if1 .taken))
 
--- src/lib.rt:32:9
 returns-2 : tie.Need-returns-2
 returns-2 c = rw (ne-eqb _ _ (c .before .if1 .left), eq-eqb _ _ (c .if2 .taken))
 
--- src/lib.rt:25:1
 returns-3 : tie.Need-returns-3
 returns-3 c = rw (ne-eqb _ _ (c .before .if1 .left), ne-eqb _ _ (c .if2 .left))
 

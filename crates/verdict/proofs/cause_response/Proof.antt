@@ -4,43 +4,33 @@ use Rattle.verdict.proofs.cause_response.Tie as tie
 use Rattle.verdict.proofs.cause_response.Reads as reads
 use Rattle.verdict.proofs.cause_response.Lts as lts
 
--- src/lib.rt:42:38
 enum-told : tie.Need-enum-told
 enum-told c = search needs
 
--- src/lib.rt:43:32
 enum-told-2 : tie.Need-enum-told-2
 enum-told-2 c = search needs
 
--- src/lib.rt:44:34
 enum-told-3 : tie.Need-enum-told-3
 enum-told-3 c = search needs
 
--- src/lib.rt:45:26
 enum-told-4 : tie.Need-enum-told-4
 enum-told-4 c = search needs
 
--- src/lib.rt:46:27
 enum-told-5 : tie.Need-enum-told-5
 enum-told-5 c = search needs
 
--- src/lib.rt:38:1
 returns : tie.Need-returns
 returns c = search needs
 
--- src/lib.rt:38:1
 returns-2 : tie.Need-returns-2
 returns-2 c = search needs
 
--- src/lib.rt:38:1
 returns-3 : tie.Need-returns-3
 returns-3 c = search needs
 
--- src/lib.rt:38:1
 returns-4 : tie.Need-returns-4
 returns-4 c = search needs
 
--- src/lib.rt:38:1
 returns-5 : tie.Need-returns-5
 returns-5 c = search needs
 

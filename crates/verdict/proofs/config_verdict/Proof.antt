@@ -9,29 +9,23 @@ use Rattle.verdict.proofs.cause_of.Reads as cause-of-reads
 use Rattle.verdict.proofs.config_shape.Reads as config-shape-reads
 use Rattle.verdict.proofs.received.Reads as received-reads
 
--- src/lib.rt:126:12
 config-shape-requires : tie.Need-config-shape-requires
 config-shape-requires c κs = search needs
 
--- src/lib.rt:127:13
 received-requires : tie.Need-received-requires
 received-requires c κs = search needs
 
--- src/lib.rt:127:13
 returns : tie.Need-returns
 unfolding configVerdict
 returns c = rw (eq-eqb _ _ (c .before .before .before .if1 .taken), ← c .before .before .config-shape .ensures, c .before .if2 .taken) (c .received .ensures)
 
--- src/lib.rt:129:9
 returns-2 : tie.Need-returns-2
 unfolding configVerdict
 returns-2 c = rw (eq-eqb _ _ (c .before .before .if1 .taken), ← c .before .config-shape .ensures, c .if2 .left)
 
--- src/lib.rt:131:21
 cause-of-requires : tie.Need-cause-of-requires
 cause-of-requires c κs = search needs
 
--- src/lib.rt:122:1
 returns-3 : tie.Need-returns-3
 unfolding configVerdict
 returns-3 c = rw (ne-eqb _ _ (c .before .if1 .left), c .cause-of .ensures)

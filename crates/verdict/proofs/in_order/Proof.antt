@@ -3,33 +3,26 @@ use Rattle.verdict.proofs.in_order.Statement.{statement}
 use Rattle.verdict.proofs.in_order.Tie as tie
 use Rattle.verdict.proofs.in_order.Reads as reads
 use Rattle.verdict.proofs.in_order.Lts as lts
-use Rattle.verdict.proofs.long.Reads as long-reads
+use Rattle.common.proofs.long.Reads as long-reads
 
--- src/lib.rt:83:9
 long-requires : tie.Need-long-requires
 long-requires c κs = search needs
 
--- src/lib.rt:87:16
 long-requires-2 : tie.Need-long-requires-2
 long-requires-2 c κs = search needs
 
--- src/lib.rt:87:12
 mul-result : tie.Need-mul-result
 mul-result c = search needs
 
--- src/lib.rt:87:45
 long-requires-3 : tie.Need-long-requires-3
 long-requires-3 c κs = search needs
 
--- src/lib.rt:87:33
 add-result : tie.Need-add-result
 add-result c = search needs
 
--- src/lib.rt:87:33
 add-result-2 : tie.Need-add-result-2
 add-result-2 c = search needs
 
--- src/lib.rt:80:1
 returns : tie.Need-returns
 returns c = rw (c .before .before .before .before .long .ensures .0, c .before .long2 .ensures .0, c .long3 .ensures .0)
 

@@ -10,38 +10,30 @@ use Rattle.verdict.proofs.in_order.Reads as in-order-reads
 use Rattle.verdict.proofs.received.Reads as received-reads
 use Rattle.verdict.proofs.useful.Reads as useful-reads
 
--- src/lib.rt:104:12
 in-order-requires : tie.Need-in-order-requires
 in-order-requires c κs = search needs
 
--- src/lib.rt:105:32
 useful-requires : tie.Need-useful-requires
 useful-requires c κs = search needs
 
--- src/lib.rt:105:13
 received-requires : tie.Need-received-requires
 received-requires c κs = search needs
 
--- src/lib.rt:105:13
 returns : tie.Need-returns
 unfolding memoryVerdict
 returns c = rw (eq-eqb _ _ (c .before .before .before .before .if1 .taken), ← c .before .before .before .in-order .ensures, c .before .before .if2 .taken, ← c .before .useful .ensures) (c .received .ensures)
 
--- src/lib.rt:107:9
 returns-2 : tie.Need-returns-2
 unfolding memoryVerdict
 returns-2 c = rw (eq-eqb _ _ (c .before .before .if1 .taken), ← c .before .in-order .ensures, c .if2 .left)
 
--- src/lib.rt:110:9
 returns-3 : tie.Need-returns-3
 unfolding memoryVerdict
 returns-3 c = rw (ne-eqb _ _ (c .before .before .if1 .left), eq-eqb _ _ (c .if3 .taken))
 
--- src/lib.rt:112:21
 cause-of-requires : tie.Need-cause-of-requires
 cause-of-requires c κs = search needs
 
--- src/lib.rt:100:1
 returns-4 : tie.Need-returns-4
 unfolding memoryVerdict
 returns-4 c = rw (ne-eqb _ _ (c .before .before .before .if1 .left), c .cause-of .ensures, ne-eqb _ _ (c .before .if3 .left))

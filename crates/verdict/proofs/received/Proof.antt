@@ -3,11 +3,9 @@ use Rattle.verdict.proofs.received.Tie as tie
 use Rattle.verdict.proofs.received.Reads as reads
 use Rattle.verdict.proofs.received.Lts as lts
 
--- src/lib.rt:94:9
 returns : tie.Need-returns
 returns c = rw (c .if1 .taken)
 
--- src/lib.rt:90:1
 returns-2 : tie.Need-returns-2
 returns-2 c = rw (c .if1 .left)
 

@@ -8,54 +8,42 @@ use Rattle.parts.proofs.access.config_done.Reads as config-done-reads
 use Rattle.parts.proofs.access.config_failed.Reads as config-failed-reads
 use Rattle.parts.proofs.access.config_word.Reads as config-word-reads
 
--- src/access.rt:327:32
 enum-told : tie.Need-enum-told
 enum-told c = search needs
 
--- src/access.rt:329:17
 enum-told-2 : tie.Need-enum-told-2
 enum-told-2 c = search needs
 
--- src/access.rt:329:17
 config-word-requires : tie.Need-config-word-requires
 config-word-requires c κs = search needs
 
--- src/access.rt:330:13
 config-done-requires : tie.Need-config-done-requires
 config-done-requires c κs = search needs
 
--- src/access.rt:332:33
 enum-told-3 : tie.Need-enum-told-3
 enum-told-3 c = search needs
 
--- src/access.rt:332:33
 config-done-requires-2 : tie.Need-config-done-requires-2
 config-done-requires-2 c κs = search needs
 
--- src/access.rt:333:25
 enum-known-v : tie.Need-enum-known-v
 enum-known-v c = search needs
 
--- src/access.rt:333:33
 config-failed-requires : tie.Need-config-failed-requires
 config-failed-requires c κs = search needs
 
--- src/access.rt:323:1
 returns : tie.Need-returns
 unfolding configAnswer
 returns c = rw (c .enum-told .given .1)
 
--- src/access.rt:323:1
 returns-2 : tie.Need-returns-2
 unfolding configAnswer
 returns-2 c = rw (c .before .before .enum-told2 .given .1, ← c .before .config-word .ensures) (c .config-done .ensures)
 
--- src/access.rt:323:1
 returns-3 : tie.Need-returns-3
 unfolding configAnswer
 returns-3 c = rw (c .before .enum-told3 .given .1) (c .config-done2 .ensures)
 
--- src/access.rt:323:1
 returns-4 : tie.Need-returns-4
 returns-4 c = rw (c .before .before .v .given .1) (c .config-failed .ensures (c .before .before .before .before .before .args .payload .now))
 

@@ -9,44 +9,35 @@ use Rattle.parts.proofs.access.goes_out.Reads as goes-out-reads
 use Rattle.ecam.proofs.number_of.Reads as number-of-reads
 use Rattle.tags.proofs.available.Reads as available-reads
 
--- src/access.rt:44:9
 returns : tie.Need-returns
 unfolding configNumber
 returns c = rw (lt-ltb _ _ (c .if1 .taken))
 
--- src/access.rt:50:9
 number-of-requires : tie.Need-number-of-requires
 number-of-requires c κs = search needs
 
--- src/access.rt:48:9
 returns-2 : tie.Need-returns-2
 unfolding configNumber
 returns-2 c = rw (le-ltb _ _ (c .before .before .before .before .if1 .left), ne-eqb _ _ (c .if2 .taken))
 
--- src/access.rt:52:9
 returns-3 : tie.Need-returns-3
 unfolding configNumber
 returns-3 c = rw (le-ltb _ _ (c .before .before .before .before .before .if1 .left), eq-eqb _ _ (c .before .if2 .left), ← c .before .before .before .before .number-of .ensures, ne-eqb _ _ (c .if3 .taken))
 
--- src/access.rt:54:9
 goes-out-requires : tie.Need-goes-out-requires
 goes-out-requires c κs = search needs
 
--- src/access.rt:57:9
 returns-4 : tie.Need-returns-4
 unfolding configNumber
 returns-4 c = rw (le-ltb _ _ (c .before .before .before .before .before .before .before .before .before .if1 .left), eq-eqb _ _ (c .before .before .before .before .before .if2 .left), ← c .before .before .before .before .before .before .before .before .number-of .ensures, eq-eqb _ _ (c .before .before .before .before .if3 .left), ← c .before .before .before .goes-out .ensures, c .if4 .taken)
 
--- src/access.rt:59:15
 available-requires : tie.Need-available-requires
 available-requires c κs = search needs
 
--- src/access.rt:60:9
 returns-5 : tie.Need-returns-5
 unfolding configNumber
 returns-5 c = rw (le-ltb _ _ (c .before .before .before .before .before .before .before .before .before .before .before .if1 .left), eq-eqb _ _ (c .before .before .before .before .before .before .before .if2 .left), ← c .before .before .before .before .before .before .before .before .before .before .number-of .ensures, eq-eqb _ _ (c .before .before .before .before .before .before .if3 .left), ← c .before .before .before .before .before .goes-out .ensures, c .before .before .if4 .left, ← c .before .available .ensures, c .if5 .taken)
 
--- src/access.rt:40:1
 returns-6 : tie.Need-returns-6
 unfolding configNumber
 returns-6 c = rw (le-ltb _ _ (c .before .before .before .before .before .before .before .before .before .before .before .if1 .left), eq-eqb _ _ (c .before .before .before .before .before .before .before .if2 .left), ← c .before .before .before .before .before .before .before .before .before .before .number-of .ensures, eq-eqb _ _ (c .before .before .before .before .before .before .if3 .left), ← c .before .before .before .before .before .goes-out .ensures, c .before .before .if4 .left, ← c .before .available .ensures, c .if5 .left)

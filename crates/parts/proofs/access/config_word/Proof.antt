@@ -5,15 +5,12 @@ use Rattle.parts.proofs.access.config_word.Reads as reads
 use Rattle.parts.proofs.access.config_word.Lts as lts
 use Rattle.ecam.proofs.data_word.Reads as data-word-reads
 
--- src/access.rt:301:9
 returns : tie.Need-returns
 returns c = search needs
 
--- src/access.rt:303:5
 data-word-requires : tie.Need-data-word-requires
 data-word-requires c κs = search needs
 
--- src/access.rt:297:1
 returns-2 : tie.Need-returns-2
 returns-2 c = rw (c .before .if1 .left) (c .data-word .ensures)
 

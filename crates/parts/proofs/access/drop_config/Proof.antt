@@ -4,11 +4,9 @@ use Rattle.parts.proofs.access.drop_config.Tie as tie
 use Rattle.parts.proofs.access.drop_config.Reads as reads
 use Rattle.parts.proofs.access.drop_config.Lts as lts
 
--- src/access.rt:80:9
 returns : tie.Need-returns
 returns c = rw (eq-eqb _ _ (c .if1 .taken))
 
--- src/access.rt:76:1
 returns-2 : tie.Need-returns-2
 returns-2 c = rw (ne-eqb _ _ (c .if1 .left))
 

@@ -7,20 +7,16 @@ use Rattle.parts.proofs.access.local_core.Lts as lts
 use Rattle.ecam.proofs.local_read.Reads as local-read-reads
 use Rattle.ecam.proofs.local_write.Reads as local-write-reads
 
--- src/access.rt:72:9
 local-write-requires : tie.Need-local-write-requires
 local-write-requires c κs = search needs
 
--- src/access.rt:80:9
 returns : tie.Need-returns
 unfolding localCore
 returns c = rw (c .before .if1 .taken, c .local-write .ensures)
 
--- src/access.rt:82:9
 local-read-requires : tie.Need-local-read-requires
 local-read-requires c κs = search needs
 
--- src/access.rt:66:1
 returns-2 : tie.Need-returns-2
 unfolding localCore
 returns-2 c = rw (c .before .if1 .left, c .local-read .ensures)

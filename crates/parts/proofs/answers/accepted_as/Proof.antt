@@ -5,7 +5,6 @@ use Rattle.parts.proofs.answers.accepted_as.Tie as tie
 use Rattle.parts.proofs.answers.accepted_as.Reads as reads
 use Rattle.parts.proofs.answers.accepted_as.Lts as lts
 
--- src/answers.rt:76:1
 returns : tie.Need-returns
 unfolding accepted
 returns c = refl

@@ -7,19 +7,15 @@ use Rattle.parts.proofs.answers.plain_answer.Lts as lts
 use Rattle.parts.proofs.answers.accepted_as.Reads as accepted-as-reads
 use Rattle.parts.proofs.answers.refusal_of.Reads as refusal-of-reads
 
--- src/answers.rt:103:9
 accepted-as-requires : tie.Need-accepted-as-requires
 accepted-as-requires c κs = search needs
 
--- src/answers.rt:103:9
 returns : tie.Need-returns
 returns c = rw (eq-eqb _ _ (c .before .if1 .taken), c .accepted-as .ensures)
 
--- src/answers.rt:105:5
 refusal-of-requires : tie.Need-refusal-of-requires
 refusal-of-requires c κs = search needs
 
--- src/answers.rt:99:1
 returns-2 : tie.Need-returns-2
 returns-2 c = rw (ne-eqb _ _ (c .before .if1 .left), c .refusal-of .ensures)
 

@@ -6,11 +6,9 @@ use Rattle.parts.proofs.answers.raise_in.Reads as reads
 use Rattle.parts.proofs.answers.raise_in.Lts as lts
 use Rattle.ecam.proofs.raise.Reads as raise-reads
 
--- src/answers.rt:16:5
 raise-requires : tie.Need-raise-requires
 raise-requires c κs = search needs
 
--- src/answers.rt:12:1
 returns : tie.Need-returns
 unfolding raisedCore
 returns c = rw (c .raise .ensures)

@@ -5,17 +5,14 @@ use Rattle.parts.proofs.answers.response_of.Tie as tie
 use Rattle.parts.proofs.answers.response_of.Reads as reads
 use Rattle.parts.proofs.answers.response_of.Lts as lts
 
--- src/answers.rt:27:9
 returns : tie.Need-returns
 unfolding responseOf
 returns c = rw (eq-eqb _ _ (c .if1 .taken))
 
--- src/answers.rt:30:9
 returns-2 : tie.Need-returns-2
 unfolding responseOf
 returns-2 c = rw (ne-eqb _ _ (c .before .if1 .left), eq-eqb _ _ (c .if2 .taken))
 
--- src/answers.rt:23:1
 returns-3 : tie.Need-returns-3
 unfolding responseOf
 returns-3 c = rw (ne-eqb _ _ (c .before .if1 .left), ne-eqb _ _ (c .if2 .left))

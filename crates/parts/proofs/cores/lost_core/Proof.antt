@@ -7,19 +7,15 @@ use Rattle.parts.proofs.answers.raise_in.Reads as raise-in-reads
 use Rattle.parts.proofs.access.drop_config.Reads as drop-config-reads
 use Rattle.parts.proofs.cores.with_link.Reads as with-link-reads
 
--- src/cores.rt:97:5
 drop-config-requires : tie.Need-drop-config-requires
 drop-config-requires c κs = search needs
 
--- src/cores.rt:99:14
 with-link-requires : tie.Need-with-link-requires
 with-link-requires c κs = search needs
 
--- src/cores.rt:99:5
 raise-in-requires : tie.Need-raise-in-requires
 raise-in-requires c κs = search needs
 
--- src/cores.rt:92:1
 returns : tie.Need-returns
 returns c = rw (c .raise-in .ensures, c .before .with-link .ensures, c .before .before .drop-config .ensures)
 

@@ -6,15 +6,12 @@ use Rattle.parts.proofs.numbers.is_old.Lts as lts
 use Rattle.parts.proofs.numbers.age.Reads as age-reads
 use Rattle.verdict.proofs.is_open.Reads as is-open-reads
 
--- src/numbers.rt:43:5
 is-open-requires : tie.Need-is-open-requires
 is-open-requires c κs = search needs
 
--- src/numbers.rt:43:32
 age-requires : tie.Need-age-requires
 age-requires c κs = search needs
 
--- src/numbers.rt:40:1
 returns : tie.Need-returns
 returns c = rw (c .before .is-open .ensures, c .age .ensures)
 

@@ -5,17 +5,14 @@ use Rattle.parts.proofs.numbers.number_for.Tie as tie
 use Rattle.parts.proofs.numbers.number_for.Reads as reads
 use Rattle.parts.proofs.numbers.number_for.Lts as lts
 
--- src/numbers.rt:38:9
 returns : tie.Need-returns
 unfolding takeNumber
 returns c = rw (lt-ltb _ _ (c .if1 .taken))
 
--- src/numbers.rt:41:9
 returns-2 : tie.Need-returns-2
 unfolding takeNumber
 returns-2 c = rw (le-ltb _ _ (c .before .if1 .left), ne-eqb _ _ (c .if2 .taken))
 
--- src/numbers.rt:34:1
 returns-3 : tie.Need-returns-3
 unfolding takeNumber
 returns-3 c = rw (le-ltb _ _ (c .before .if1 .left), eq-eqb _ _ (c .if2 .left))

@@ -1,3 +1,8 @@
+use mathlib.Core.Path.{sym}
+use denote.Ref.{now}
+use Rattle.parts.specs.Sizes.{slotCount}
+use Rattle.parts.specs.contracts.Columns.{stateColumn}
+use Rattle.parts.proofs.Columns.{get}
 use borrow.Author.Tests.{lt-ltb, le-ltb, eq-eqb, ne-eqb}
 use Rattle.parts.specs.Numbers.{stateIn}
 use borrow.Author.Needs.{needs}
@@ -7,29 +12,26 @@ use Rattle.parts.proofs.numbers.state_in.Reads as reads
 use Rattle.parts.proofs.numbers.state_in.Lts as lts
 use Rattle.common.proofs.index.Reads as index-reads
 
--- src/numbers.rt:24:9
 returns : tie.Need-returns
 unfolding stateIn
 returns c = rw (eq-eqb _ _ (c .if1 .taken))
 
--- src/numbers.rt:27:13
 index-requires : tie.Need-index-requires
 index-requires c κs = search needs
 
--- src/numbers.rt:28:16
+add-result : tie.Need-add-result
+add-result c = search needs
+
 mul-result : tie.Need-mul-result
 mul-result c = search needs
 
--- src/numbers.rt:28:16
 element-copy-out-result : tie.Need-element-copy-out-result
 element-copy-out-result c = search needs
 
--- src/numbers.rt:28:9
 returns-2 : tie.Need-returns-2
 unfolding stateIn
-returns-2 c = rw (ne-eqb _ _ (c .before .before .before .if1 .left), lt-ltb _ _ (c .before .before .if2 .taken), c .before .index .ensures .0)
+returns-2 c = rw (ne-eqb _ _ (c .before .before .before .if1 .left), lt-ltb _ _ (c .before .before .if2 .taken), c .before .index .ensures .0) (sym (get slotCount stateColumn (now (c .before .before .before .before .args .slots)) (c .before .before .before .before .args .slot) (c .before .before .if2 .taken)))
 
--- src/numbers.rt:20:1
 returns-3 : tie.Need-returns-3
 unfolding stateIn
 returns-3 c = rw (ne-eqb _ _ (c .before .if1 .left), le-ltb _ _ (c .if2 .left))
@@ -37,4 +39,4 @@ returns-3 c = rw (ne-eqb _ _ (c .before .if1 .left), le-ltb _ _ (c .if2 .left))
 pub state-in-spec : {M : Type 1} → statement M
 state-in-spec =
     tie.close
-    (tie.spec returns index-requires mul-result element-copy-out-result returns-2 returns-3)
+    (tie.spec returns index-requires add-result mul-result element-copy-out-result returns-2 returns-3)

@@ -10,67 +10,51 @@ use Rattle.tlp.proofs.completion.completion_header.Lts as lts
 use Rattle.tlp.proofs.completion.completion_type.Reads as completion-type-reads
 use Rattle.tlp.proofs.completion.poison_bit.Reads as poison-bit-reads
 
--- src/completion.rt:77:9
 poison-bit-requires : tie.Need-poison-bit-requires
 poison-bit-requires c κs = search needs
 
--- src/completion.rt:78:9
 completion-type-requires : tie.Need-completion-type-requires
 completion-type-requires c κs = search needs
 
--- src/completion.rt:83:14
 add-t6 : tie.Need-add-t6
 add-t6 c = search needs
 
--- src/completion.rt:83:13
 cast-t7 : tie.Need-cast-t7
 cast-t7 c = search needs
 
--- src/completion.rt:84:13
 cast-t9 : tie.Need-cast-t9
 cast-t9 c = search needs
 
--- src/completion.rt:85:13
 cast-t11 : tie.Need-cast-t11
 cast-t11 c = omega (arith, completion-ranges (c .before .before .before .before .before .args .c) (c .before .before .before .before .before .pre), c .before .before .before .before .poison-bit .ensures .1)
 
--- src/completion.rt:86:13
 cast-t13 : tie.Need-cast-t13
 cast-t13 c = search needs
 
--- src/completion.rt:87:14
 mul-t14 : tie.Need-mul-t14
 mul-t14 c = omega (arith, completion-ranges (c .before .before .before .before .before .before .before .args .c) (c .before .before .before .before .before .before .before .pre), c .before .before .before .before .before .before .poison-bit .ensures .1)
 
--- src/completion.rt:87:14
 add-t17 : tie.Need-add-t17
 add-t17 c = omega (arith, completion-ranges (c .before .before .before .before .before .before .before .before .args .c) (c .before .before .before .before .before .before .before .before .pre), c .before .before .before .before .before .before .before .poison-bit .ensures .1)
 
--- src/completion.rt:87:13
 cast-t18 : tie.Need-cast-t18
 cast-t18 c = omega (arith, completion-ranges (c .before .before .before .before .before .before .before .before .args .c) (c .before .before .before .before .before .before .before .before .pre), c .before .before .before .before .before .before .before .poison-bit .ensures .1)
 
--- src/completion.rt:88:13
 cast-t20 : tie.Need-cast-t20
 cast-t20 c = search needs
 
--- src/completion.rt:89:13
 cast-t22 : tie.Need-cast-t22
 cast-t22 c = omega (arith, completion-ranges (c .before .before .before .before .before .before .before .before .before .before .args .c) (c .before .before .before .before .before .before .before .before .before .before .pre), c .before .before .before .before .before .before .before .before .before .poison-bit .ensures .1)
 
--- src/completion.rt:90:13
 cast-t24 : tie.Need-cast-t24
 cast-t24 c = search needs
 
--- src/completion.rt:91:13
 cast-t25 : tie.Need-cast-t25
 cast-t25 c = omega (arith, completion-ranges (c .before .before .before .before .before .before .before .before .before .before .before .before .args .c) (c .before .before .before .before .before .before .before .before .before .before .before .before .pre), c .before .before .before .before .before .before .before .before .before .before .before .poison-bit .ensures .1)
 
--- src/completion.rt:92:13
 cast-t26 : tie.Need-cast-t26
 cast-t26 c = omega (arith, completion-ranges (c .before .before .before .before .before .before .before .before .before .before .before .before .before .args .c) (c .before .before .before .before .before .before .before .before .before .before .before .before .before .pre), c .before .before .before .before .before .before .before .before .before .before .before .before .poison-bit .ensures .1)
 
--- src/completion.rt:73:1
 returns : tie.Need-returns
 unfolding completionBytes
 returns c = (rw (c .before .before .before .before .before .before .before .before .before .before .before .completion-type .ensures, c .before .before .before .before .before .before .before .before .before .before .before .before .poison-bit .ensures .0), lit≤ tt)

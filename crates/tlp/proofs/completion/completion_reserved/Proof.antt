@@ -6,39 +6,30 @@ use Rattle.tlp.proofs.completion.completion_reserved.Reads as reads
 use Rattle.tlp.proofs.completion.completion_reserved.Lts as lts
 use Rattle.common.proofs.wide.Reads as wide-reads
 
--- src/completion.rt:137:21
 shared-slice-read-wide : tie.Need-shared-slice-read-wide
 shared-slice-read-wide c = search needs
 
--- src/completion.rt:137:9
 wide-requires : tie.Need-wide-requires
 wide-requires c κs = search needs
 
--- src/completion.rt:138:21
 shared-slice-read-wide-2 : tie.Need-shared-slice-read-wide-2
 shared-slice-read-wide-2 c = search needs
 
--- src/completion.rt:138:9
 wide-requires-2 : tie.Need-wide-requires-2
 wide-requires-2 c κs = search needs
 
--- src/completion.rt:141:17
 shared-slice-read-wide-3 : tie.Need-shared-slice-read-wide-3
 shared-slice-read-wide-3 c = search needs
 
--- src/completion.rt:141:12
 wide-requires-3 : tie.Need-wide-requires-3
 wide-requires-3 c κs = search needs
 
--- src/completion.rt:144:17
 shared-slice-read-wide-4 : tie.Need-shared-slice-read-wide-4
 shared-slice-read-wide-4 c = search needs
 
--- src/completion.rt:144:12
 wide-requires-4 : tie.Need-wide-requires-4
 wide-requires-4 c κs = search needs
 
--- src/completion.rt:132:1
 returns : tie.Need-returns
 unfolding completionReserved
 returns c = rw (← c .before .before .before .before .before .before .wide .ensures .0, ← c .before .before .before .before .wide2 .ensures .0, ← c .before .before .wide3 .ensures .0, ← c .wide4 .ensures .0)

@@ -4,11 +4,9 @@ use Rattle.tlp.proofs.completion.count_in.Tie as tie
 use Rattle.tlp.proofs.completion.count_in.Reads as reads
 use Rattle.tlp.proofs.completion.count_in.Lts as lts
 
--- src/completion.rt:127:9
 returns : tie.Need-returns
 returns c = rw (eq-eqb _ _ (c .if1 .taken))
 
--- src/completion.rt:123:1
 returns-2 : tie.Need-returns-2
 returns-2 c = rw (ne-eqb _ _ (c .if1 .left))
 

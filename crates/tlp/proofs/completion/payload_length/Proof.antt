@@ -5,15 +5,12 @@ use Rattle.tlp.proofs.completion.payload_length.Reads as reads
 use Rattle.tlp.proofs.completion.payload_length.Lts as lts
 use Rattle.tlp.proofs.length_in.Reads as length-in-reads
 
--- src/completion.rt:118:9
 length-in-requires : tie.Need-length-in-requires
 length-in-requires c κs = search needs
 
--- src/completion.rt:118:9
 returns : tie.Need-returns
 returns c = rw (c .before .if1 .taken, c .length-in .ensures)
 
--- src/completion.rt:114:1
 returns-2 : tie.Need-returns-2
 returns-2 c = search needs
 

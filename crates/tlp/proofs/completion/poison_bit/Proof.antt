@@ -4,11 +4,9 @@ use Rattle.tlp.proofs.completion.poison_bit.Tie as tie
 use Rattle.tlp.proofs.completion.poison_bit.Reads as reads
 use Rattle.tlp.proofs.completion.poison_bit.Lts as lts
 
--- src/completion.rt:66:1
 returns : tie.Need-returns
 returns c = (rw (c .if1 .taken), lit≤ tt)
 
--- src/completion.rt:66:1
 returns-2 : tie.Need-returns-2
 returns-2 c = (rw (c .if1 .left), lit≤ tt)
 

@@ -12,29 +12,23 @@ use Rattle.tlp.proofs.completion.accept_completion.Reads as accept-comp
 use Rattle.tlp.proofs.completion.completion_in.Reads as completion-in-reads
 use Rattle.tlp.proofs.completion.completion_reserved.Reads as completion-reserved-reads
 
--- src/completion.rt:185:9
 returns : tie.Need-returns
 unfolding readCompletion completionReserved
 returns c = rw (ne-eqb (length (now (c .before .before .args .s))) 12 (λ e. omega (arith, c .if1 .taken)))
 
--- src/completion.rt:187:8
 completion-reserved-requires : tie.Need-completion-reserved-requires
 completion-reserved-requires c κs = search needs
 
--- src/completion.rt:188:34
 completion-in-requires : tie.Need-completion-in-requires
 completion-in-requires c κs = search needs
 
--- src/completion.rt:188:9
 accept-completion-requires : tie.Need-accept-completion-requires
 accept-completion-requires c κs = search needs
 
--- src/completion.rt:188:9
 returns-2 : tie.Need-returns-2
 unfolding readCompletion
 returns-2 c = rw (← c .before .before .before .completion-reserved .ensures, c .before .before .if2 .taken, c .accept-completion .ensures, c .before .completion-in .ensures)
 
--- src/completion.rt:181:1
 returns-3 : tie.Need-returns-3
 unfolding readCompletion
 returns-3 c = rw (← c .before .completion-reserved .ensures, c .if2 .left)

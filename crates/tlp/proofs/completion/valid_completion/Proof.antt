@@ -6,11 +6,9 @@ use Rattle.tlp.proofs.completion.valid_completion.Reads as reads
 use Rattle.tlp.proofs.completion.valid_completion.Lts as lts
 use Rattle.tlp.proofs.completion.valid_payload.Reads as valid-payload-reads
 
--- src/completion.rt:48:5
 valid-payload-requires : tie.Need-valid-payload-requires
 valid-payload-requires c κs = search needs
 
--- src/completion.rt:45:1
 returns : tie.Need-returns
 unfolding validCompletion
 returns c = rw (← c .before .before .before .before .before .before .before .valid-payload .ensures)

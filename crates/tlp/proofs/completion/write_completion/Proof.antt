@@ -13,33 +13,26 @@ use Rattle.common.proofs.copy_at.Reads as copy-at-reads
 use Rattle.tlp.proofs.completion.completion_header.Reads as completion-header-reads
 use Rattle.tlp.proofs.completion.valid_completion.Reads as valid-completion-reads
 
--- src/completion.rt:93:9
 returns : tie.Need-returns
 returns c = short (now (c .before .before .args .area)) (completionBytes (c .before .before .args .c)) (validCompletion (c .before .before .args .c)) (c .if1 .taken)
 
--- src/completion.rt:98:8
 valid-completion-requires : tie.Need-valid-completion-requires
 valid-completion-requires c κs = search needs
 
--- src/completion.rt:99:13
 completion-header-requires : tie.Need-completion-header-requires
 completion-header-requires c κs = sym (c .before .valid-completion .ensures) ∙ c .if2 .taken
 
--- src/completion.rt:102:26
 slice-aggregate-copy-at : tie.Need-slice-aggregate-copy-at
 slice-aggregate-copy-at c = search needs
 
--- src/completion.rt:102:9
 copy-at-requires : tie.Need-copy-at-requires
 copy-at-requires c κs =
     let k : length (c .before .before .before .completion-header .result .bytes) ≡ 16 = search (needs, c .before .before .before .completion-header .ok) in
     omega (arith, k, c .before .before .before .completion-header .ensures .1, c .before .before .before .before .before .before .if1 .left)
 
--- src/completion.rt:103:9
 same-length : tie.Need-same-length
 same-length c = search needs
 
--- src/completion.rt:103:9
 returns-2 : tie.Need-returns-2
 returns-2 c =
     let k : length (c .before .before .before .before .before .before .completion-header .result .bytes) ≡ 16 = search (needs, c .before .before .before .before .before .before .completion-header .ok) in
@@ -48,7 +41,6 @@ returns-2 c =
     (c .before .before .before .before .before .before .completion-header .result .length) (c .before .before .before .before .before .before .before .before .before .if1 .left) (sym (c .before .before .before .before .before .before .before .before .valid-completion .ensures) ∙ c .before .before .before .before .before .before .before .if2 .taken) (omega (arith, k, c .before .before .before .before .before .before .completion-header .ensures .1)) (c .before .before .before .before .before .before .completion-header .ensures .0) in
     (w .0, c .before .before .copy-at .ensures ∙ w .1)
 
--- src/completion.rt:89:1
 returns-3 : tie.Need-returns-3
 returns-3 c = invalid (now (c .before .before .before .before .args .area)) (completionBytes (c .before .before .before .before .args .c)) (validCompletion (c .before .before .before .before .args .c)) (c .before .before .if1 .left) (sym (c .before .valid-completion .ensures) ∙ c .if2 .left)
 

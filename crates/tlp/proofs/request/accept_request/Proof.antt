@@ -5,15 +5,12 @@ use Rattle.tlp.proofs.request.accept_request.Reads as reads
 use Rattle.tlp.proofs.request.accept_request.Lts as lts
 use Rattle.tlp.proofs.request.valid_request.Reads as valid-request-reads
 
--- src/request.rt:378:8
 valid-request-requires : tie.Need-valid-request-requires
 valid-request-requires c κs = search needs
 
--- src/request.rt:379:9
 returns : tie.Need-returns
 returns c = rw (← c .before .valid-request .ensures, c .if1 .taken)
 
--- src/request.rt:375:1
 returns-2 : tie.Need-returns-2
 returns-2 c = rw (← c .before .valid-request .ensures, c .if1 .left)
 

@@ -6,35 +6,27 @@ use Rattle.tlp.proofs.request.config_tail.Tie as tie
 use Rattle.tlp.proofs.request.config_tail.Reads as reads
 use Rattle.tlp.proofs.request.config_tail.Lts as lts
 
--- src/request.rt:132:13
 cast-t2 : tie.Need-cast-t2
 cast-t2 c = omega (arith, config-ranges (c .before .args .p) (c .before .pre))
 
--- src/request.rt:133:14
 mul-t3 : tie.Need-mul-t3
 mul-t3 c = omega (arith, config-ranges (c .before .before .args .p) (c .before .before .pre))
 
--- src/request.rt:133:14
 add-t4 : tie.Need-add-t4
 add-t4 c = omega (arith, config-ranges (c .before .before .before .args .p) (c .before .before .before .pre))
 
--- src/request.rt:133:13
 cast-t5 : tie.Need-cast-t5
 cast-t5 c = omega (arith, config-ranges (c .before .before .before .args .p) (c .before .before .before .pre))
 
--- src/request.rt:134:13
 cast-t6 : tie.Need-cast-t6
 cast-t6 c = omega (arith, config-ranges (c .before .before .before .before .args .p) (c .before .before .before .before .pre))
 
--- src/request.rt:135:14
 mul-t7 : tie.Need-mul-t7
 mul-t7 c = omega (arith, config-ranges (c .before .before .before .before .before .args .p) (c .before .before .before .before .before .pre))
 
--- src/request.rt:135:13
 cast-t8 : tie.Need-cast-t8
 cast-t8 c = omega (arith, config-ranges (c .before .before .before .before .before .args .p) (c .before .before .before .before .before .pre))
 
--- src/request.rt:126:1
 returns : tie.Need-returns
 returns c = search needs
 

@@ -6,54 +6,43 @@ use Rattle.tlp.proofs.request.format_type.Tie as tie
 use Rattle.tlp.proofs.request.format_type.Reads as reads
 use Rattle.tlp.proofs.request.format_type.Lts as lts
 
--- src/request.rt:110:24
 enum-known-target : tie.Need-enum-known-target
 enum-known-target c = search needs
 
--- src/request.rt:112:17
 returns : tie.Need-returns
 unfolding formatType
 returns c = rw (c .before .before .before .target .given .1, c .if2 .taken, lt-ltb _ _ (c .before .if1 .taken))
 
--- src/request.rt:112:17
 returns-2 : tie.Need-returns-2
 unfolding formatType
 returns-2 c = rw (c .before .before .before .target .given .1, c .if2 .left, lt-ltb _ _ (c .before .if1 .taken))
 
--- src/request.rt:117:16
 enum-told : tie.Need-enum-told
 enum-told c = search needs
 
--- src/request.rt:120:16
 enum-told-2 : tie.Need-enum-told-2
 enum-told-2 c = search needs
 
--- src/request.rt:106:1
 returns-3 : tie.Need-returns-3
 unfolding formatType
 returns-3 c = rw (c .before .before .before .target .given .1, c .if3 .taken, le-ltb _ _ (c .before .if1 .left))
 
--- src/request.rt:106:1
 returns-4 : tie.Need-returns-4
 unfolding formatType
 returns-4 c = rw (c .before .before .before .target .given .1, c .if3 .left, le-ltb _ _ (c .before .if1 .left))
 
--- src/request.rt:106:1
 returns-5 : tie.Need-returns-5
 unfolding formatType
 returns-5 c = rw (c .before .enum-told .given .1, c .if4 .taken)
 
--- src/request.rt:106:1
 returns-6 : tie.Need-returns-6
 unfolding formatType
 returns-6 c = rw (c .before .enum-told .given .1, c .if4 .left)
 
--- src/request.rt:106:1
 returns-7 : tie.Need-returns-7
 unfolding formatType
 returns-7 c = rw (c .before .enum-told2 .given .1, c .if5 .taken)
 
--- src/request.rt:106:1
 returns-8 : tie.Need-returns-8
 unfolding formatType
 returns-8 c = rw (c .before .enum-told2 .given .1, c .if5 .left)

@@ -7,59 +7,45 @@ use Rattle.tlp.proofs.request.memory_tail.Reads as reads
 use Rattle.tlp.proofs.request.memory_tail.Lts as lts
 use Rattle.tlp.proofs.request.byte_of.Reads as byte-of-reads
 
--- src/request.rt:158:17
 byte-of-requires : tie.Need-byte-of-requires
 byte-of-requires c κs = search needs
 
--- src/request.rt:159:17
 byte-of-requires-2 : tie.Need-byte-of-requires-2
 byte-of-requires-2 c κs = search needs
 
--- src/request.rt:160:17
 byte-of-requires-3 : tie.Need-byte-of-requires-3
 byte-of-requires-3 c κs = search needs
 
--- src/request.rt:161:17
 byte-of-requires-4 : tie.Need-byte-of-requires-4
 byte-of-requires-4 c κs = search needs
 
--- src/request.rt:156:9
 returns : tie.Need-returns
 returns c = (rw (lt-ltb _ _ (c .before .before .before .before .if1 .taken), c .before .before .before .byte-of .ensures, c .before .before .byte-of2 .ensures, c .before .byte-of3 .ensures, c .byte-of4 .ensures), lit≤ tt)
 
--- src/request.rt:172:13
 byte-of-requires-5 : tie.Need-byte-of-requires-5
 byte-of-requires-5 c κs = search needs
 
--- src/request.rt:173:13
 byte-of-requires-6 : tie.Need-byte-of-requires-6
 byte-of-requires-6 c κs = search needs
 
--- src/request.rt:174:13
 byte-of-requires-7 : tie.Need-byte-of-requires-7
 byte-of-requires-7 c κs = search needs
 
--- src/request.rt:175:13
 byte-of-requires-8 : tie.Need-byte-of-requires-8
 byte-of-requires-8 c κs = search needs
 
--- src/request.rt:176:13
 byte-of-requires-9 : tie.Need-byte-of-requires-9
 byte-of-requires-9 c κs = search needs
 
--- src/request.rt:177:13
 byte-of-requires-10 : tie.Need-byte-of-requires-10
 byte-of-requires-10 c κs = search needs
 
--- src/request.rt:178:13
 byte-of-requires-11 : tie.Need-byte-of-requires-11
 byte-of-requires-11 c κs = search needs
 
--- src/request.rt:179:13
 byte-of-requires-12 : tie.Need-byte-of-requires-12
 byte-of-requires-12 c κs = search needs
 
--- src/request.rt:152:1
 returns-2 : tie.Need-returns-2
 returns-2 c = (rw (le-ltb _ _ (c .before .before .before .before .before .before .before .before .if1 .left), c .before .before .before .before .before .before .before .byte-of5 .ensures, c .before .before .before .before .before .before .byte-of6 .ensures, c .before .before .before .before .before .byte-of7 .ensures, c .before .before .before .before .byte-of8 .ensures, c .before .before .before .byte-of9 .ensures, c .before .before .byte-of10 .ensures, c .before .byte-of11 .ensures, c .byte-of12 .ensures), lit≤ tt)
 

@@ -17,59 +17,45 @@ use Rattle.tlp.proofs.request.format_of.Reads as format-of-reads
 use Rattle.tlp.proofs.request.request_in.Reads as request-in-reads
 use Rattle.tlp.proofs.request.target_in.Reads as target-in-reads
 
--- src/request.rt:389:9
 returns : tie.Need-returns
 returns c = sym (read-short (now (c .before .before .args .s)) (c .if1 .taken))
 
--- src/request.rt:391:21
 shared-slice-read-wide : tie.Need-shared-slice-read-wide
 shared-slice-read-wide c = search needs
 
--- src/request.rt:391:9
 wide-requires : tie.Need-wide-requires
 wide-requires c κs = search needs
 
--- src/request.rt:392:30
 shared-slice-read-wide-2 : tie.Need-shared-slice-read-wide-2
 shared-slice-read-wide-2 c = search needs
 
--- src/request.rt:392:25
 wide-requires-2 : tie.Need-wide-requires-2
 wide-requires-2 c κs = search needs
 
--- src/request.rt:392:50
 shared-slice-read-wide-3 : tie.Need-shared-slice-read-wide-3
 shared-slice-read-wide-3 c = search needs
 
--- src/request.rt:392:45
 wide-requires-3 : tie.Need-wide-requires-3
 wide-requires-3 c κs = search needs
 
--- src/request.rt:393:31
 format-of-requires : tie.Need-format-of-requires
 format-of-requires c κs = search needs
 
--- src/request.rt:393:13
 target-in-requires : tie.Need-target-in-requires
 target-in-requires c κs = search needs
 
--- src/request.rt:395:28
 enum-known-found : tie.Need-enum-known-found
 enum-known-found c = search needs
 
--- src/request.rt:395:54
 request-in-requires : tie.Need-request-in-requires
 request-in-requires c κs = search needs
 
--- src/request.rt:395:39
 accept-request-requires : tie.Need-accept-request-requires
 accept-request-requires c κs = search needs
 
--- src/request.rt:396:34
 enum-told : tie.Need-enum-told
 enum-told c = search needs
 
--- src/request.rt:394:9
 returns-2 : tie.Need-returns-2
 unfolding requestReserved
 returns-2 c =
@@ -78,14 +64,12 @@ returns-2 c =
     let f : targetIn (formatOf (byte s 0 % 0x40)) s ≡ At (c .before .before .before .found .given .0 .0) = rw (← c .before .before .before .before .before .before .before .before .before .before .before .before .wide .ensures .0, ← c .before .before .before .before .before .before .format-of .ensures) (sym (c .before .before .before .before .before .target-in .ensures) ∙ c .before .before .before .found .given .1) in
     sym (read-at s (c .before .before .before .found .given .0 .0) e f ∙ rw (c .accept-request .ensures, c .before .request-in .ensures))
 
--- src/request.rt:394:9
 returns-3 : tie.Need-returns-3
 returns-3 c =
     let s = now (c .before .before .before .before .before .before .before .before .before .before .before .before .before .args .s) in
     let f : targetIn (formatOf (byte s 0 % 0x40)) s ≡ Wrong = rw (← c .before .before .before .before .before .before .before .before .before .wide .ensures .0, ← c .before .before .before .format-of .ensures) (sym (c .before .before .target-in .ensures) ∙ c .enum-told .given .1) in
     sym (read-wrong s f)
 
--- src/request.rt:385:1
 returns-4 : tie.Need-returns-4
 unfolding requestReserved
 returns-4 c =

@@ -12,83 +12,63 @@ use Rattle.tlp.proofs.request.request_header.Lts as lts
 use Rattle.tlp.proofs.request.format_type.Reads as format-type-reads
 use Rattle.tlp.proofs.request.target_tail.Reads as target-tail-reads
 
--- src/request.rt:207:9
 format-type-requires : tie.Need-format-type-requires
 format-type-requires c κs = search needs
 
--- src/request.rt:208:13
 target-tail-requires : tie.Need-target-tail-requires
 target-tail-requires c κs = request-ranges (c .before .args .q) (c .before .pre) .target
 
--- src/request.rt:213:13
 cast-t8 : tie.Need-cast-t8
 cast-t8 c = search needs
 
--- src/request.rt:214:13
 cast-t10 : tie.Need-cast-t10
 cast-t10 c = search needs
 
--- src/request.rt:215:13
 cast-t12 : tie.Need-cast-t12
 cast-t12 c = omega (arith, request-ranges (c .before .before .before .before .before .args .q) (c .before .before .before .before .before .pre))
 
--- src/request.rt:216:13
 cast-t14 : tie.Need-cast-t14
 cast-t14 c = search needs
 
--- src/request.rt:217:13
 cast-t15 : tie.Need-cast-t15
 cast-t15 c = omega (arith, request-ranges (c .before .before .before .before .before .before .before .args .q) (c .before .before .before .before .before .before .before .pre))
 
--- src/request.rt:218:14
 mul-t16 : tie.Need-mul-t16
 mul-t16 c = omega (arith, request-ranges (c .before .before .before .before .before .before .before .before .args .q) (c .before .before .before .before .before .before .before .before .pre))
 
--- src/request.rt:218:14
 add-t17 : tie.Need-add-t17
 add-t17 c = omega (arith, request-ranges (c .before .before .before .before .before .before .before .before .before .args .q) (c .before .before .before .before .before .before .before .before .before .pre))
 
--- src/request.rt:218:13
 cast-t18 : tie.Need-cast-t18
 cast-t18 c = omega (arith, request-ranges (c .before .before .before .before .before .before .before .before .before .args .q) (c .before .before .before .before .before .before .before .before .before .pre))
 
--- src/request.rt:219:13
 element-copy-out-t21 : tie.Need-element-copy-out-t21
 element-copy-out-t21 c = search needs
 
--- src/request.rt:220:13
 element-copy-out-t24 : tie.Need-element-copy-out-t24
 element-copy-out-t24 c = search needs
 
--- src/request.rt:221:13
 element-copy-out-t27 : tie.Need-element-copy-out-t27
 element-copy-out-t27 c = search needs
 
--- src/request.rt:222:13
 element-copy-out-t30 : tie.Need-element-copy-out-t30
 element-copy-out-t30 c = search needs
 
--- src/request.rt:223:13
 element-copy-out-t33 : tie.Need-element-copy-out-t33
 element-copy-out-t33 c = search needs
 
--- src/request.rt:224:13
 element-copy-out-t36 : tie.Need-element-copy-out-t36
 element-copy-out-t36 c = search needs
 
--- src/request.rt:225:13
 element-copy-out-t39 : tie.Need-element-copy-out-t39
 element-copy-out-t39 c = search needs
 
--- src/request.rt:226:13
 element-copy-out-t42 : tie.Need-element-copy-out-t42
 element-copy-out-t42 c = search needs
 
--- src/request.rt:228:17
 add-t45 : tie.Need-add-t45
 add-t45 c = search needs
 
--- src/request.rt:202:1
 returns : tie.Need-returns
 unfolding requestBytes
 returns c =

@@ -6,83 +6,63 @@ use Rattle.tlp.proofs.request.request_in.Lts as lts
 use Rattle.common.proofs.wide.Reads as wide-reads
 use Rattle.tlp.proofs.length_in.Reads as length-in-reads
 
--- src/request.rt:360:21
 shared-slice-read-wide : tie.Need-shared-slice-read-wide
 shared-slice-read-wide c = search needs
 
--- src/request.rt:360:9
 wide-requires : tie.Need-wide-requires
 wide-requires c κs = search needs
 
--- src/request.rt:361:22
 shared-slice-read-wide-2 : tie.Need-shared-slice-read-wide-2
 shared-slice-read-wide-2 c = search needs
 
--- src/request.rt:361:17
 wide-requires-2 : tie.Need-wide-requires-2
 wide-requires-2 c κs = search needs
 
--- src/request.rt:361:17
 mul-field : tie.Need-mul-field
 mul-field c = search needs
 
--- src/request.rt:361:41
 shared-slice-read-wide-3 : tie.Need-shared-slice-read-wide-3
 shared-slice-read-wide-3 c = search needs
 
--- src/request.rt:361:36
 wide-requires-3 : tie.Need-wide-requires-3
 wide-requires-3 c κs = search needs
 
--- src/request.rt:361:17
 add-field : tie.Need-add-field
 add-field c = search needs
 
--- src/request.rt:362:26
 shared-slice-read-wide-4 : tie.Need-shared-slice-read-wide-4
 shared-slice-read-wide-4 c = search needs
 
--- src/request.rt:362:21
 wide-requires-4 : tie.Need-wide-requires-4
 wide-requires-4 c κs = search needs
 
--- src/request.rt:362:21
 mul-requester : tie.Need-mul-requester
 mul-requester c = search needs
 
--- src/request.rt:362:45
 shared-slice-read-wide-5 : tie.Need-shared-slice-read-wide-5
 shared-slice-read-wide-5 c = search needs
 
--- src/request.rt:362:40
 wide-requires-5 : tie.Need-wide-requires-5
 wide-requires-5 c κs = search needs
 
--- src/request.rt:362:21
 add-requester : tie.Need-add-requester
 add-requester c = search needs
 
--- src/request.rt:363:24
 shared-slice-read-wide-6 : tie.Need-shared-slice-read-wide-6
 shared-slice-read-wide-6 c = search needs
 
--- src/request.rt:363:9
 wide-requires-6 : tie.Need-wide-requires-6
 wide-requires-6 c κs = search needs
 
--- src/request.rt:367:17
 length-in-requires : tie.Need-length-in-requires
 length-in-requires c κs = search needs
 
--- src/request.rt:369:19
 shared-slice-read-wide-7 : tie.Need-shared-slice-read-wide-7
 shared-slice-read-wide-7 c = search needs
 
--- src/request.rt:369:14
 wide-requires-7 : tie.Need-wide-requires-7
 wide-requires-7 c κs = search needs
 
--- src/request.rt:356:1
 returns : tie.Need-returns
 returns c = cc
 

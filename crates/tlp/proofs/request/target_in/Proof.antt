@@ -10,114 +10,89 @@ use Rattle.tlp.proofs.request.address3.Reads as address3-reads
 use Rattle.tlp.proofs.request.address4.Reads as address4-reads
 use Rattle.tlp.proofs.request.config_in.Reads as config-in-reads
 
--- src/request.rt:319:16
 enum-told : tie.Need-enum-told
 enum-told c = search needs
 
--- src/request.rt:320:17
 returns : tie.Need-returns
 unfolding targetIn
 returns c = rw (c .before .enum-told .given .1, ne-eqb _ _ (c .if1 .taken))
 
--- src/request.rt:322:43
 address3-requires : tie.Need-address3-requires
 address3-requires c κs = search needs
 
--- src/request.rt:325:16
 enum-told-2 : tie.Need-enum-told-2
 enum-told-2 c = search needs
 
--- src/request.rt:326:17
 returns-2 : tie.Need-returns-2
 unfolding targetIn
 returns-2 c = rw (c .before .enum-told2 .given .1, ne-eqb _ _ (c .if2 .taken))
 
--- src/request.rt:328:17
 address4-requires : tie.Need-address4-requires
 address4-requires c κs = search needs
 
--- src/request.rt:330:17
 returns-3 : tie.Need-returns-3
 unfolding targetIn
 returns-3 c = rw (c .before .before .before .enum-told2 .given .1, eq-eqb _ _ (c .before .before .if2 .left), ← c .before .address4 .ensures, lt-leb _ _ (c .if3 .taken))
 
--- src/request.rt:335:16
 enum-told-3 : tie.Need-enum-told-3
 enum-told-3 c = search needs
 
--- src/request.rt:336:17
 returns-4 : tie.Need-returns-4
 unfolding targetIn
 returns-4 c = rw (c .before .enum-told3 .given .1, ne-eqb _ _ (c .if4 .taken))
 
--- src/request.rt:338:21
 shared-slice-read-wide : tie.Need-shared-slice-read-wide
 shared-slice-read-wide c = search needs
 
--- src/request.rt:338:16
 wide-requires : tie.Need-wide-requires
 wide-requires c κs = search needs
 
--- src/request.rt:339:17
 returns-5 : tie.Need-returns-5
 unfolding targetIn
 returns-5 c = rw (c .before .before .before .before .enum-told3 .given .1, eq-eqb _ _ (c .before .before .before .if4 .left), ← c .before .wide .ensures .0, ne-eqb _ _ (c .if5 .taken))
 
--- src/request.rt:341:44
 config-in-requires : tie.Need-config-in-requires
 config-in-requires c κs = search needs
 
--- src/request.rt:344:16
 enum-told-4 : tie.Need-enum-told-4
 enum-told-4 c = search needs
 
--- src/request.rt:345:17
 returns-6 : tie.Need-returns-6
 unfolding targetIn
 returns-6 c = rw (c .before .enum-told4 .given .1, ne-eqb _ _ (c .if6 .taken))
 
--- src/request.rt:347:21
 shared-slice-read-wide-2 : tie.Need-shared-slice-read-wide-2
 shared-slice-read-wide-2 c = search needs
 
--- src/request.rt:347:16
 wide-requires-2 : tie.Need-wide-requires-2
 wide-requires-2 c κs = search needs
 
--- src/request.rt:348:17
 returns-7 : tie.Need-returns-7
 unfolding targetIn
 returns-7 c = rw (c .before .before .before .before .enum-told4 .given .1, eq-eqb _ _ (c .before .before .before .if6 .left), ← c .before .wide2 .ensures .0, ne-eqb _ _ (c .if7 .taken))
 
--- src/request.rt:350:44
 config-in-requires-2 : tie.Need-config-in-requires-2
 config-in-requires-2 c κs = search needs
 
--- src/request.rt:352:26
 enum-told-5 : tie.Need-enum-told-5
 enum-told-5 c = search needs
 
--- src/request.rt:313:1
 returns-8 : tie.Need-returns-8
 unfolding targetIn
 returns-8 c = rw (c .before .before .enum-told .given .1, eq-eqb _ _ (c .before .if1 .left), c .address3 .ensures .0)
 
--- src/request.rt:313:1
 returns-9 : tie.Need-returns-9
 unfolding targetIn
 returns-9 c = rw (c .before .before .before .enum-told2 .given .1, eq-eqb _ _ (c .before .before .if2 .left), ← c .before .address4 .ensures, le-leb _ _ (c .if3 .left))
 
--- src/request.rt:313:1
 returns-10 : tie.Need-returns-10
 unfolding targetIn
 returns-10 c = rw (c .before .before .before .before .before .enum-told3 .given .1, eq-eqb _ _ (c .before .before .before .before .if4 .left), ← c .before .before .wide .ensures .0, eq-eqb _ _ (c .before .if5 .left), c .before .before .wide .ensures .0, c .config-in .ensures)
 
--- src/request.rt:313:1
 returns-11 : tie.Need-returns-11
 unfolding targetIn
 returns-11 c = rw (c .before .before .before .before .before .enum-told4 .given .1, eq-eqb _ _ (c .before .before .before .before .if6 .left), ← c .before .before .wide2 .ensures .0, eq-eqb _ _ (c .before .if7 .left), c .before .before .wide2 .ensures .0, c .config-in2 .ensures)
 
--- src/request.rt:313:1
 returns-12 : tie.Need-returns-12
 unfolding targetIn
 returns-12 c = rw (c .enum-told5 .given .1)

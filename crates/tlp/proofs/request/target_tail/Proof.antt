@@ -9,43 +9,34 @@ use Rattle.tlp.proofs.request.target_tail.Lts as lts
 use Rattle.tlp.proofs.request.config_tail.Reads as config-tail-reads
 use Rattle.tlp.proofs.request.memory_tail.Reads as memory-tail-reads
 
--- src/request.rt:195:24
 enum-known-target : tie.Need-enum-known-target
 enum-known-target c = search needs
 
--- src/request.rt:195:30
 memory-tail-requires : tie.Need-memory-tail-requires
 memory-tail-requires c κs = search needs
 
--- src/request.rt:196:25
 enum-known-target-2 : tie.Need-enum-known-target-2
 enum-known-target-2 c = search needs
 
--- src/request.rt:196:31
 config-tail-requires : tie.Need-config-tail-requires
 unfolding validTarget
 config-tail-requires c κs = and-right (eqb (c .before .before .before .args .words) 1) (validConfig (c .before .target2 .given .0 .0)) (rw (c .before .target2 .given .1) at (c .before .before .before .pre))
 
--- src/request.rt:197:25
 enum-known-target-3 : tie.Need-enum-known-target-3
 enum-known-target-3 c = search needs
 
--- src/request.rt:197:31
 config-tail-requires-2 : tie.Need-config-tail-requires-2
 unfolding validTarget
 config-tail-requires-2 c κs = and-right (eqb (c .before .before .before .args .words) 1) (validConfig (c .before .target3 .given .0 .0)) (rw (c .before .target3 .given .1) at (c .before .before .before .pre))
 
--- src/request.rt:190:1
 returns : tie.Need-returns
 unfolding targetBytes
 returns c = rw (c .before .before .target .given .1) (c .memory-tail .ensures)
 
--- src/request.rt:190:1
 returns-2 : tie.Need-returns-2
 unfolding targetBytes
 returns-2 c = rw (c .before .before .target2 .given .1) (c .config-tail .ensures)
 
--- src/request.rt:190:1
 returns-3 : tie.Need-returns-3
 unfolding targetBytes
 returns-3 c = rw (c .before .before .target3 .given .1) (c .config-tail2 .ensures)

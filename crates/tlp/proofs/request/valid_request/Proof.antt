@@ -7,15 +7,12 @@ use Rattle.tlp.proofs.request.valid_request.Lts as lts
 use Rattle.tlp.proofs.request.valid_enables.Reads as valid-enables-reads
 use Rattle.tlp.proofs.request.valid_target.Reads as valid-target-reads
 
--- src/request.rt:102:11
 valid-enables-requires : tie.Need-valid-enables-requires
 valid-enables-requires c κs = search needs
 
--- src/request.rt:103:11
 valid-target-requires : tie.Need-valid-target-requires
 valid-target-requires c κs = search needs
 
--- src/request.rt:92:1
 returns : tie.Need-returns
 unfolding validRequest
 returns c = rw (c .before .valid-enables .ensures, c .valid-target .ensures)

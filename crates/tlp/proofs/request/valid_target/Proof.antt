@@ -6,37 +6,29 @@ use Rattle.tlp.proofs.request.valid_target.Reads as reads
 use Rattle.tlp.proofs.request.valid_target.Lts as lts
 use Rattle.tlp.proofs.request.valid_config.Reads as valid-config-reads
 
--- src/request.rt:86:24
 enum-known-target : tie.Need-enum-known-target
 enum-known-target c = search needs
 
--- src/request.rt:87:25
 enum-known-target-2 : tie.Need-enum-known-target-2
 enum-known-target-2 c = search needs
 
--- src/request.rt:87:46
 valid-config-requires : tie.Need-valid-config-requires
 valid-config-requires c κs = search needs
 
--- src/request.rt:88:25
 enum-known-target-3 : tie.Need-enum-known-target-3
 enum-known-target-3 c = search needs
 
--- src/request.rt:88:46
 valid-config-requires-2 : tie.Need-valid-config-requires-2
 valid-config-requires-2 c κs = search needs
 
--- src/request.rt:82:1
 returns : tie.Need-returns
 unfolding validTarget
 returns c = rw (c .before .target .given .1)
 
--- src/request.rt:82:1
 returns-2 : tie.Need-returns-2
 unfolding validTarget
 returns-2 c = rw (c .before .before .target2 .given .1, c .valid-config .ensures)
 
--- src/request.rt:82:1
 returns-3 : tie.Need-returns-3
 unfolding validTarget
 returns-3 c = rw (c .before .before .target3 .given .1, c .valid-config2 .ensures)

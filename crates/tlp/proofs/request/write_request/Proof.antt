@@ -13,33 +13,26 @@ use Rattle.common.proofs.copy_at.Reads as copy-at-reads
 use Rattle.tlp.proofs.request.request_header.Reads as request-header-reads
 use Rattle.tlp.proofs.request.valid_request.Reads as valid-request-reads
 
--- src/request.rt:237:9
 returns : tie.Need-returns
 returns c = short (now (c .before .before .args .area)) (requestBytes (c .before .before .args .q)) (validRequest (c .before .before .args .q)) (c .if1 .taken)
 
--- src/request.rt:242:8
 valid-request-requires : tie.Need-valid-request-requires
 valid-request-requires c κs = search needs
 
--- src/request.rt:243:13
 request-header-requires : tie.Need-request-header-requires
 request-header-requires c κs = sym (c .before .valid-request .ensures) ∙ c .if2 .taken
 
--- src/request.rt:246:26
 slice-aggregate-copy-at : tie.Need-slice-aggregate-copy-at
 slice-aggregate-copy-at c = search needs
 
--- src/request.rt:246:9
 copy-at-requires : tie.Need-copy-at-requires
 copy-at-requires c κs =
     let k : length (c .before .before .before .request-header .result .bytes) ≡ 16 = search (needs, c .before .before .before .request-header .ok) in
     omega (arith, k, c .before .before .before .request-header .ensures .1, c .before .before .before .before .before .before .if1 .left)
 
--- src/request.rt:247:9
 same-length : tie.Need-same-length
 same-length c = search needs
 
--- src/request.rt:247:9
 returns-2 : tie.Need-returns-2
 returns-2 c =
     let k : length (c .before .before .before .before .before .before .request-header .result .bytes) ≡ 16 = search (needs, c .before .before .before .before .before .before .request-header .ok) in
@@ -48,7 +41,6 @@ returns-2 c =
     (c .before .before .before .before .before .before .request-header .result .length) (c .before .before .before .before .before .before .before .before .before .if1 .left) (sym (c .before .before .before .before .before .before .before .before .valid-request .ensures) ∙ c .before .before .before .before .before .before .before .if2 .taken) (omega (arith, k, c .before .before .before .before .before .before .request-header .ensures .1)) (c .before .before .before .before .before .before .request-header .ensures .0) in
     (w .0, c .before .before .copy-at .ensures ∙ w .1)
 
--- src/request.rt:233:1
 returns-3 : tie.Need-returns-3
 returns-3 c = invalid (now (c .before .before .before .before .args .area)) (requestBytes (c .before .before .before .before .args .q)) (validRequest (c .before .before .before .before .args .q)) (c .before .before .if1 .left) (sym (c .before .valid-request .ensures) ∙ c .if2 .left)
 

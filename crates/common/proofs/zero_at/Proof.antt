@@ -5,8 +5,8 @@ use native.Mathlib.Numerals.{add-one}
 use native.Mathlib.Omega.{arith}
 use lib.ListN.{length, length-set, getD, replicate, length-replicate, getD-replicate}
 use lib.Seq.{paste, paste-zero, paste-suc}
-use Rattle.burst.proofs.zero_at.Statement.{statement}
-use Rattle.burst.proofs.zero_at.Tie as tie
+use Rattle.common.proofs.zero_at.Statement.{statement}
+use Rattle.common.proofs.zero_at.Tie as tie
 
 abbrev Inv-loop : tie.InvT-loop
 Inv-loop dst₀ at n i₀ dst i = (i ≤ n) × ((length dst ≡ length dst₀) × (dst ≡ paste dst₀ at (replicate n 0) i))
