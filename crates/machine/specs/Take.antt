@@ -1,0 +1,35 @@
+-- Taking a finished answer: a look and a release, 'two calls with one set of refusals' (01, 'Ticks and the link').
+-- The state of a slot and the refusals are defined in `parts`, and passed on.
+use Prim.Native.Nat.{ℕ, _*_}
+use mathlib.Core.List.{List, []}
+use mathlib.Core.Bool.{cond}
+use lib.ListN.{length, take, drop}
+use lib.Dec.{ltb, eqb}
+use Rattle.machine.specs.State.{Bridge, Answered, slotCount, slotSize, slotFree, withConfig, coreIn, setState, sizeOf, failureOf, freeConfig, responseOf, accepted, answered, refused}
+unfoldable pub use Rattle.parts.specs.Numbers.{stateIn, takeNumber}
+
+abbrev pub stateOf : Bridge → ℕ → ℕ
+stateOf b k = stateIn (b .core .config .state) (b .state) k
+
+abbrev pub takeRefusal : Bridge → ℕ → ℕ → ℕ
+takeRefusal b room k = takeNumber room (stateOf b k)
+
+-- 'hands back the very part of the store that holds it, empty when refused'; slot 8's 'part is empty'
+unfoldable pub looked : Bridge → List ℕ → ℕ → List ℕ
+looked b store k =
+    cond (eqb (takeRefusal b (length store) k) 0) (cond (ltb k slotCount) (take (sizeOf b k) (drop (slotSize * k) store)) []) []
+
+-- 'frees the slot'
+unfoldable pub slotFreed : ℕ → Bridge → Bridge
+slotFreed k b =
+    cond (ltb k slotCount) (setState k slotFree b)
+    (coreIn (withConfig freeConfig (b .core)) b)
+
+-- 'number, response and data word'; the word 'is 0 for writes and for memory reads'
+unfoldable pub releaseStep : Bridge → ℕ → ℕ → Answered
+releaseStep b room k =
+    cond (eqb (takeRefusal b room k) 0)
+    (answered (slotFreed k b)
+    (cond (ltb k slotCount) (accepted (responseOf (failureOf b k)) 0 0 0)
+    (accepted (responseOf (b .core .config .response)) 0 0 (b .core .config .word))))
+    (refused (takeRefusal b room k) b)

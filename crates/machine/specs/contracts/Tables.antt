@@ -1,0 +1,33 @@
+-- What the code's tables mean: the columns of a bridge, from the settings, the core, the missing counts and the two flat
+-- tables.
+use Prim.Native.Nat.{ℕ}
+use mathlib.Core.List.{List}
+use Rattle.address.specs.declared.Settings.{Settings}
+use Rattle.parts.specs.declared.Core.{Core}
+use Rattle.parts.specs.Sizes.{tagCount, slotCount}
+use Rattle.parts.specs.contracts.Columns.{column, sentColumn, ownerColumn, placeColumn, nextColumn, kindColumn, stateColumn, sizeColumn, piecesColumn, faultColumn, causeColumn}
+use Rattle.machine.specs.Bridge.{Bridge}
+use Rattle.machine.specs.Completions.{Held, held}
+
+-- m the missing counts, t the table by tag, x the table by slot
+abbrev pub bridgeOf : Settings → Core → List ℕ → List ℕ → List ℕ → Bridge
+bridgeOf s c m t x =
+    record {
+      settings = s;
+      core = c;
+      missing = m;
+      sent = column tagCount sentColumn t;
+      owner = column tagCount ownerColumn t;
+      place = column tagCount placeColumn t;
+      next = column tagCount nextColumn t;
+      kind = column tagCount kindColumn t;
+      state = column slotCount stateColumn x;
+      size = column slotCount sizeColumn x;
+      pieces = column slotCount piecesColumn x;
+      fault = column slotCount faultColumn x;
+      cause = column slotCount causeColumn x;
+    }
+
+-- the same with the store
+abbrev pub heldOf : Settings → Core → List ℕ → List ℕ → List ℕ → List ℕ → Held
+heldOf s c m t x store = held (bridgeOf s c m t x) store
