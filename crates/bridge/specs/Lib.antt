@@ -1,11 +1,1 @@
-pub mod State
-pub mod Memory
-pub mod MemorySteps
-pub mod Config
-pub mod Passing
-pub mod Verdict
-pub mod Completions
-pub mod Expected
-pub mod Lent
-pub mod Ticks
-pub mod Take
+pub mod View

@@ -4,38 +4,33 @@ use crate::Bridge;
 use crate::Response;
 use address::Settings;
 use ecam::Registers;
+use parts::SLOT_CELLS;
+use parts::TAG_CELLS;
+use parts::TAGS;
 use parts::answers::accepted_as;
 use parts::answers::refusal_of;
 use parts::cores::fresh_core;
+use refusals::SETTING;
 ghost use mathlib.Core.Path.{_≡_};
-ghost use Rattle.bridge.specs.State.{freshBridge, newBridge, registersOf, lineOf};
+ghost use Rattle.machine.specs.State.{freshBridge, newBridge, registersOf, lineOf};
+ghost use Rattle.bridge.specs.View.{Whole, viewOf, stepOf};
 
 fn fresh_bridge(s: Settings) -> Bridge
-    ensures { λ r. ⌜ r ≡ freshBridge s ⌝ }
+    ensures { λ r. ⌜ viewOf r ≡ freshBridge s ⌝ }
 {
-    let core = fresh_core();
-    let tag = [0u32; 32];
-    let slot = [0u32; 8];
     Bridge {
         settings: s,
-        core: core,
-        missing: tag,
-        sent: tag,
-        owner: tag,
-        place: tag,
-        state: slot,
-        start: slot,
-        size: slot,
-        pieces: slot,
-        fault: slot,
-        cause: slot,
+        core: fresh_core(),
+        missing: [0; TAGS],
+        tags: [0; TAG_CELLS],
+        slots: [0; SLOT_CELLS],
     }
 }
 
 impl Bridge {
     // The fresh bridge with these settings; where one of them breaks its rule, that of the worked examples, and 1.
     pub fn new(s: Settings) -> Answered
-        ensures { λ r. ⌜ r ≡ newBridge s ⌝ }
+        ensures { λ r. ⌜ stepOf r ≡ newBridge s ⌝ }
     {
         let number = address::settings_number(s);
         if number == 0 {
@@ -49,13 +44,13 @@ impl Bridge {
         let bridge = fresh_bridge(example);
         Answered {
             bridge: bridge,
-            answer: refusal_of(1),
+            answer: refusal_of(SETTING),
         }
     }
 
-    // The registers, which the local words show.
+    // The registers, which the local words show; and of every struct, that its tables have their lengths.
     pub fn registers(self) -> Registers
-        ensures { λ r. ⌜ r ≡ registersOf self ⌝ }
+        ensures { λ r. ⌜ (r ≡ registersOf (viewOf self)) × Whole self ⌝ }
     {
         let core = self.core;
         core.registers
@@ -63,7 +58,7 @@ impl Bridge {
 
     // The interrupt line.
     pub fn line(self) -> bool
-        ensures { λ r. ⌜ r ≡ lineOf self ⌝ }
+        ensures { λ r. ⌜ r ≡ lineOf (viewOf self) ⌝ }
     {
         let core = self.core;
         let registers = core.registers;

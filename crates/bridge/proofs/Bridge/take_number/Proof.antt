@@ -1,22 +1,17 @@
+use mathlib.Core.Path.{_≡_, refl, sym, ap, _∙_}
+use borrow.Author.Tests.{eq-eqb, ne-eqb}
 use borrow.Author.Needs.{needs}
 use Rattle.bridge.proofs.Bridge.take_number.Statement.{statement}
 use Rattle.bridge.proofs.Bridge.take_number.Tie as tie
 use Rattle.bridge.proofs.Bridge.take_number.Reads as reads
 use Rattle.bridge.proofs.Bridge.take_number.Lts as lts
-use Rattle.parts.proofs.numbers.number_for.Reads as number-for-reads
-use Rattle.parts.proofs.numbers.state_in.Reads as state-in-reads
+use Rattle.events.proofs.take.take_number_in.Reads as take-number-in-reads
 
--- src/take.rt:89:13
-state-in-requires : tie.Need-state-in-requires
-state-in-requires c κs = search needs
+take-number-in-requires : tie.Need-take-number-in-requires
+take-number-in-requires c κs = search needs
 
--- src/take.rt:90:9
-number-for-requires : tie.Need-number-for-requires
-number-for-requires c κs = search needs
-
--- src/take.rt:83:5
 returns : tie.Need-returns
-returns c = rw (← c .before .state-in .ensures) (c .number-for .ensures)
+returns c = let b = c .before .before .before .before .before .args .self in c .take-number-in .ensures (b .settings) (b .missing) (b .tags)
 
 pub take-number-spec : {M : Type 1} → statement M
-take-number-spec = tie.close (tie.spec state-in-requires number-for-requires returns)
+take-number-spec = tie.close (tie.spec take-number-in-requires returns)

@@ -1,22 +1,23 @@
-use mathlib.Core.Path.{refl}
+use mathlib.Core.Path.{_≡_, refl, sym, ap, _∙_}
+use borrow.Author.Tests.{eq-eqb, ne-eqb}
+use Rattle.machine.specs.Completions.{Held}
 use borrow.Author.Needs.{needs}
 use Rattle.bridge.proofs.Bridge.tick.Statement.{statement}
 use Rattle.bridge.proofs.Bridge.tick.Tie as tie
 use Rattle.bridge.proofs.Bridge.tick.Reads as reads
 use Rattle.bridge.proofs.Bridge.tick.Lts as lts
-use Rattle.bridge.proofs.tick.tick_in.Reads as tick-in-reads
+use Rattle.events.proofs.tick.tick_in.Reads as tick-in-reads
 
--- src/tick.rt:188:13
 tick-in-requires : tie.Need-tick-in-requires
 tick-in-requires c κs = search needs
 
--- src/tick.rt:174:5
 same-length : tie.Need-same-length
 same-length c = search needs
 
--- src/tick.rt:174:5
 returns : tie.Need-returns
-returns c = (rw (← c .before .before .before .before .tick-in .ensures .1 (c .before .before .before .before .before .before .before .before .before .before .before .before .before .before .before .before .before .before .before .before .before .before .before .before .before .before .before .args .self) refl, c .before .before .before .before .tick-in .ensures .0), rw (← c .before .before .before .before .tick-in .ensures .1 (c .before .before .before .before .before .before .before .before .before .before .before .before .before .before .before .before .before .before .before .before .before .before .before .before .before .before .before .args .self) refl))
+returns c = let b = c .before .before .before .before .before .before .before .before .before .before .before .before .before .before .before .args .self in
+    let x = c .before .before .before .before .tick-in .ensures .1 (b .settings) refl in
+    (rw (← x, c .before .before .before .before .tick-in .ensures .0), ap (λ (h : Held). h .store) x)
 
 pub tick-spec : {M : Type 1} → statement M
 tick-spec = tie.close (tie.spec tick-in-requires same-length returns)

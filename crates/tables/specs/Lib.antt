@@ -1,4 +1,0 @@
-pub mod Stores
-pub mod Refusals
-pub mod Routed
-pub mod Changes
