@@ -9,7 +9,7 @@
 set -euo pipefail
 cd "$(dirname "$0")"
 jobs=2
-lower='common bits tags tlp address burst ecam packets'
+lower='common refusals bits tags tlp address burst ecam packets'
 logs=$PWD/target/wrong
 room=$(mktemp -d)
 trap 'rm -rf "$room"' EXIT
@@ -40,7 +40,7 @@ reached() { # CRATE FILE
 base=$room/base
 mkdir -p "$base/crates" "$base/target/rlib" "$base/target/stamp" "$base/target/log"
 cp crates.txt "$base/"
-for c in $lower verdict parts tables bridge bridge_laws trace; do
+for c in $lower verdict parts machine bridge_laws trace; do
     mkdir "$base/crates/$c"
     for part in src specs proofs; do
         [ ! -d "crates/$c/$part" ] || cp -R "crates/$c/$part" "$base/crates/$c/"
@@ -53,7 +53,7 @@ done
 
 (
     cd "$base"
-    for c in verdict parts tables bridge; do
+    for c in verdict parts; do
         types_only "crates/$c/src/lib.rt" >"$room/lib.rt"
         rm -rf "crates/$c/src"/*
         mv "$room/lib.rt" "crates/$c/src/lib.rt"
@@ -68,10 +68,10 @@ done
     reached trace "$room/trace"
     sed -n 's/^use Rattle\.bridge_laws\.proofs\.\([A-Za-z0-9]*\).*/\1/p' $(sed 's|.*|crates/trace/proofs/&.antt|' "$room/trace") | sort -u >"$room/bridge_laws"
     reached bridge_laws "$room/bridge_laws"
-    sed -n 's/^use Rattle\.bridge\.proofs\.\([A-Za-z0-9]*\).*/\1/p' $(sed 's|.*|crates/trace/proofs/&.antt|' "$room/trace") \
-        $(sed 's|.*|crates/bridge_laws/proofs/&.antt|' "$room/bridge_laws") | sort -u >"$room/bridge"
-    reached bridge "$room/bridge"
-    for c in trace bridge_laws bridge; do
+    sed -n 's/^use Rattle\.machine\.proofs\.\([A-Za-z0-9]*\).*/\1/p' $(sed 's|.*|crates/trace/proofs/&.antt|' "$room/trace") \
+        $(sed 's|.*|crates/bridge_laws/proofs/&.antt|' "$room/bridge_laws") | sort -u >"$room/machine"
+    reached machine "$room/machine"
+    for c in trace bridge_laws machine; do
         for f in crates/$c/proofs/*.antt; do
             m=$(basename "$f" .antt)
             grep -Fxq "$m" "$room/$c" || [ "$m" = Lib ] || rm "$f"

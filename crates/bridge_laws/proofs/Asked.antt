@@ -8,7 +8,7 @@ use borrow.Author.Tests.{le-leb, lt-leb, lt-ltb, le-ltb, eq-eqb}
 use lib.Dec.{ltb, leb, eqb}
 use Rattle.burst.specs.Words.{wordAddress, wordCount, wanted, firstEnables, lastEnables}
 use Rattle.burst.proofs.Words.{first-enables-mark, last-enables-mark, between-wanted}
-use Rattle.bridge.specs.Memory.{memoryRequest}
+use Rattle.machine.specs.Memory.{memoryRequest}
 use Rattle.bridge_laws.specs.MemoryLaws.{asksFrom, asks, AsksWanted}
 
 flag : (w : Bool) (m : ℕ) → m ≡ cond w 1 0 → eqb m 1 ≡ w

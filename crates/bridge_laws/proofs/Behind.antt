@@ -30,7 +30,7 @@ use Rattle.burst.specs.Words.{wordAddress, wordCount, firstEnables, lastEnables
 use Rattle.burst.proofs.Pieces.{accepted-covers, burst-in-window}
 use Rattle.burst.proofs.Tiling.{pieces-tile, piece-not-empty, piece-within}
 use Rattle.burst.proofs.Words.{piece-words, limit-words, enables-right, same-words}
-use Rattle.bridge.specs.Memory.{windowFor, indexOf, pcieOf, memoryRequest, pieceRequest, packet}
+use Rattle.machine.specs.Memory.{windowFor, indexOf, pcieOf, memoryRequest, pieceRequest, packet}
 use Rattle.bridge_laws.specs.MemoryLaws.{Routed, Covered, RowBehind, LowBitsBehind, bytesBehind, TilesBehind, PieceRequestValid, PacketWhole}
 use Rattle.packets.proofs.Packets.{packet-valid}
 

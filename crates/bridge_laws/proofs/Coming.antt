@@ -2,21 +2,22 @@
 use Prim.Native.Nat.{ℕ, _%_, _≤_}
 use mathlib.Core.Path.{_≡_, refl, sym}
 use mathlib.Core.Bool.{Bool, true, false, cond, _&&_}
-use mathlib.Core.List.{List}
+use mathlib.Core.List.{List, [], _∷_}
 use lib.ListN.{length, drop}
 use lib.Dec.{ltb, eqb}
 use borrow.Author.Tests.{ltb-true, ltb-false, eqb-true}
 use Rattle.tlp.specs.declared.completion.Completion.{Completion}
 use Rattle.tlp.specs.declared.completion.CompletionRead.{CompletionRead}
 use Rattle.tlp.specs.declared.completion.CompletionRead.the-variants.{Header, Malformed}
-use Rattle.bridge.specs.declared.Bridge.{Bridge}
+use Rattle.refusals.specs.Table.{refusedBy, completionOrder}
+use Rattle.machine.specs.Bridge.{Bridge}
 use Rattle.verdict.specs.declared.Verdict.{Verdict}
 use Rattle.verdict.specs.declared.Verdict.the-variants.{Unexpected, Good, Poisoned, Failed}
-use Rattle.bridge.specs.State.{coreIn, refusalChange, missingOf, placeOf, ownerOf, isOpen}
-use Rattle.bridge.specs.Verdict.{memoryVerdict, configVerdict}
-use Rattle.bridge.specs.Completions.{storeSize, Held, held, memoryCompleted, configCompleted, nextAddress, verdictOf, completionOf, isUnexpected, readRefused, completeRefusal, expected, completedBy, completed}
-use Rattle.bridge_laws.specs.CompletionLaws.{Came, short, malformed, lost, memory, config, CameOneWay}
-use Rattle.bridge.proofs.Judging.{never}
+use Rattle.machine.specs.State.{coreIn, missingOf, ownerOf, placeOf, isOpen, isWrite, refusalChange}
+use Rattle.machine.specs.Verdict.{memoryVerdict, configVerdict}
+use Rattle.machine.specs.Completions.{storeSize, Held, held, memoryCompleted, configCompleted, nextAddress, verdictOf, completionOf, isUnexpected, readRefused, completeRefusal, expected, completedBy, completed}
+use Rattle.bridge_laws.specs.CompletionLaws.{Came, short, malformed, lost, memory, config, CameOneWay, isMalformed, isNotExpected, CompletionOrder}
+use Rattle.machine.proofs.Judging.{never}
 use Rattle.bridge_laws.proofs.Keeping.{verdict-open, verdict-memory}
 
 unexpected-is : (v : Verdict) → isUnexpected v ≡ true → v ≡ Unexpected
@@ -34,7 +35,7 @@ unfolding verdictOf
 verdict-ours b c e =
     eqb-true _ _
     (ours-by
-    (cond (ltb (ownerOf b (c .tag)) 8) (memoryVerdict c (missingOf b (c .tag)) (nextAddress b (c .tag))) (configVerdict c (b .core .config .write)))
+    (cond (ltb (ownerOf b (c .tag)) 8) (memoryVerdict c (missingOf b (c .tag)) (nextAddress b (c .tag))) (configVerdict c (isWrite b (c .tag))))
     (eqb (c .requester) (b .settings .requester)) (isOpen (missingOf b (c .tag)) (placeOf b (c .tag))) e)
 
 config-by : (x y : Verdict) (q o : Bool) → isUnexpected (cond (q && o) (cond false x y) Unexpected) ≡ false → cond (q && o) (cond false x y) Unexpected ≡ y
@@ -42,11 +43,11 @@ config-by x y true true e = refl
 config-by x y true false e = never e
 config-by x y false o e = never e
 
-verdict-config : (b : Bridge) (c : Completion) → isUnexpected (verdictOf b c) ≡ false → ltb (ownerOf b (c .tag)) 8 ≡ false → verdictOf b c ≡ configVerdict c (b .core .config .write)
+verdict-config : (b : Bridge) (c : Completion) → isUnexpected (verdictOf b c) ≡ false → ltb (ownerOf b (c .tag)) 8 ≡ false → verdictOf b c ≡ configVerdict c (isWrite b (c .tag))
 unfolding verdictOf
 verdict-config b c e m =
     rw m
-    (config-by (memoryVerdict c (missingOf b (c .tag)) (nextAddress b (c .tag))) (configVerdict c (b .core .config .write))
+    (config-by (memoryVerdict c (missingOf b (c .tag)) (nextAddress b (c .tag))) (configVerdict c (isWrite b (c .tag)))
     (eqb (c .requester) (b .settings .requester)) (isOpen (missingOf b (c .tag)) (placeOf b (c .tag))) (rw m at e))
 
 module _ (h : Held) (s : List ℕ) (l : storeSize ≤ length (h .store)) where
@@ -74,3 +75,13 @@ by-room h s false z = by-read h s (ltb-false _ _ z) (completionOf s) refl
 pub came-one-way : CameOneWay
 unfolding completed completeRefusal
 came-one-way h s = by-room h s (ltb (length (h .store)) storeSize) refl
+
+-- ---- the order of its refusals
+
+pub completion-order : CompletionOrder
+unfolding completeRefusal
+completion-order b room s = by (completionOf s)
+  where
+    by : (r : CompletionRead) → cond (ltb room storeSize) 8 (readRefused b r) ≡ refusedBy completionOrder (ltb room storeSize ∷ isMalformed r ∷ isNotExpected b r ∷ [])
+    by (Header c) = refl
+    by Malformed = refl

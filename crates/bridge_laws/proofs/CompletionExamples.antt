@@ -4,9 +4,9 @@ use Rattle.tlp.specs.Completion.{validCompletion, completionReserved, readCompl
 use Rattle.bits.specs.Bits.{bit, isSet, setBit, clearBit}
 use Rattle.tags.specs.Tags.{freeFrom}
 use Rattle.ecam.specs.Registers.{some, decodeBits, isDecodeBit, raised, fresh}
-use Rattle.bridge.specs.State.{raisedCore, opened, counted, shut, freed, freshCore, freshBridge, refusalChange}
-use Rattle.bridge.specs.Verdict.{memoryVerdict, configVerdict}
-use Rattle.bridge.specs.Completions.{faulted, failed, finished, pieceClosed, advanced, memoryCompleted, configAnswer, configCompleted, verdictOf, completionOf, completeRefusal, expected, completed}
+use Rattle.machine.specs.State.{raisedCore, opened, counted, shut, freed, freshCore, freshBridge, refusalChange}
+use Rattle.machine.specs.Verdict.{memoryVerdict, configVerdict}
+use Rattle.machine.specs.Completions.{faulted, failed, finished, pieceClosed, advanced, memoryCompleted, configAnswer, configCompleted, verdictOf, completionOf, completeRefusal, expected, completed}
 use Rattle.bridge_laws.specs.CompletionExamples.{W3Completed, W3Refused, W3Poisoned}
 
 pub w3-completed : W3Completed

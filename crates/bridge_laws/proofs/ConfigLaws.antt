@@ -8,7 +8,7 @@ use borrow.Author.Tests.{le-ltb, eq-eqb, ne-eqb, eqb-true, eqb-false}
 use lib.ListN.{length, getD, set, take, length-append}
 use lib.Seq.{take-at, getD-set-other}
 use lib.Dec.{ltb, eqb}
-use Rattle.common.specs.Tests.{firstOf}
+use Rattle.refusals.specs.Table.{linkDown, fewTags, configOrder, refusedBy}
 use Rattle.tags.specs.Tags.{lowest, available}
 use Rattle.tags.proofs.Tags.{lowest-is, take-one-less}
 use Rattle.tlp.specs.declared.request.Request.{Request}
@@ -21,14 +21,13 @@ use Rattle.ecam.specs.Route.{numberOf}
 use Rattle.ecam.specs.Request.{configTarget, configRequest, dataBytes}
 use Rattle.ecam.proofs.Requests.{config-request-valid}
 use Rattle.parts.specs.declared.Core.{Core}
-use Rattle.bridge.specs.declared.Bridge.{Bridge}
-use Rattle.bridge.specs.declared.Answered.{Answered}
-use Rattle.bridge.specs.State.{tagCount, opened, coreIn, refusalChange, refusal, answered, refused, registersOf}
-use Rattle.bridge.specs.Memory.{areaSize, packet}
-use Rattle.bridge.specs.Config.{Access, routeOf, goesOut, configNumber, configRefusal, localCore, routedBridge, payloadOf, configBytes, configStep, configArea}
-use Rattle.bridge.specs.Take.{stateIn}
+use Rattle.machine.specs.Bridge.{Bridge}
+use Rattle.machine.specs.State.{tagCount, Answered, coreIn, opened, refusalChange, refusal, answered, refused, registersOf}
+use Rattle.machine.specs.Memory.{areaSize, packet}
+use Rattle.machine.specs.Config.{Access, routeOf, goesOut, configNumber, configRefusal, localCore, routedBridge, payloadOf, configBytes, configStep, configArea}
+use Rattle.machine.specs.Take.{stateIn}
 use Rattle.bridge_laws.specs.ConfigLaws.{PassedAccepted, Refused, ConfigRefused, LocalSendsNothing, LocalReadKeeps, LocalReadFinishes, LocalWriteFinishes, Opens, RoutedOpens, Routed, requestOf, Packet, RoutedPacket}
-use Rattle.bridge.proofs.Configs.{passed, routed-step}
+use Rattle.machine.proofs.Configs.{passed, routed-step}
 
 -- ---- accepted
 
@@ -40,7 +39,7 @@ passes c x room p =
     some : (n : ℕ) → 0 < n → n ≡ 0 → ⊥
     some n h e = omega arith
 
-    by : (g : Bool) → goesOut x ≡ g → firstOf ((g && not (c .registers .link), 4) ∷ (g && eqb (available tagCount (c .free)) 0, 7) ∷ []) ≡ 0
+    by : (g : Bool) → goesOut x ≡ g → refusedBy (linkDown ∷ fewTags ∷ []) ((g && not (c .registers .link)) ∷ (g && eqb (available tagCount (c .free)) 0) ∷ []) ≡ 0
     by true e = rw (p .up e, ne-eqb (available tagCount (c .free)) 0 (some (available tagCount (c .free)) (p .tag e)))
     by false e = refl
 
@@ -52,13 +51,13 @@ unfolding configNumber refusalChange
 kept d c x room =
     by (ltb room areaSize) (not (eqb (c .config .state) 0)) (goesOut x && not (c .registers .link)) (goesOut x && eqb (available tagCount (c .free)) 0) x
   where
-    last : (g t : Bool) → refusalChange (firstOf ((g, 4) ∷ (t, 7) ∷ [])) d ≡ d
+    last : (g t : Bool) → refusalChange (refusedBy (linkDown ∷ fewTags ∷ []) (g ∷ t ∷ [])) d ≡ d
     last true t = refl
     last false true = refl
     last false false = refl
 
     by : (p q g t : Bool) (x : Route)
-        → refusalChange (firstOf ((p, 8) ∷ (q, 5) ∷ (not (eqb (numberOf x) 0), numberOf x) ∷ (g, 4) ∷ (t, 7) ∷ [])) d ≡ d
+        → refusalChange (refusedBy (configOrder (numberOf x)) (p ∷ q ∷ not (eqb (numberOf x) 0) ∷ g ∷ t ∷ [])) d ≡ d
     by true q g t x = refl
     by false true g t x = refl
     by false false g t OutOfRange = refl

@@ -12,11 +12,11 @@ use Rattle.ecam.specs.Registers.{fresh, raised}
 use Rattle.ecam.specs.Route.{route}
 use Rattle.ecam.specs.Request.{configRequest, configTarget, configAddress}
 use Rattle.ecam.proofs.Examples as ecam
-use Rattle.bridge.specs.State.{raisedCore, opened, shut, freeSlotFrom, accepted, refused, refusal, freshCore, freshBridge}
-use Rattle.bridge.specs.Memory.{pcieOf, memoryRequest, packet, readRefusal, claimed, readTo, readSent, readStep}
-use Rattle.bridge.specs.Completions.{faulted, failed, finished, pieceClosed}
-use Rattle.bridge.specs.Ticks.{timedOut, expire, expireTo, ticked, linked}
-use Rattle.bridge.specs.Config.{configNumber, payloadOf}
+use Rattle.machine.specs.State.{raisedCore, opened, shut, freeSlotFrom, accepted, refused, refusal, freshCore, freshBridge}
+use Rattle.machine.specs.Memory.{pcieOf, memoryRequest, packet, readRefusal, claimed, readTo, readSent, readStep}
+use Rattle.machine.specs.Completions.{faulted, failed, finished, pieceClosed}
+use Rattle.machine.specs.Ticks.{timedOut, expire, expireTo, ticked, linked}
+use Rattle.machine.specs.Config.{configNumber, payloadOf}
 use Rattle.bridge_laws.specs.Examples.{W1, W10, Played, Starred}
 use Rattle.bridge_laws.proofs.CompletionExamples.{w3-completed}
 

@@ -11,9 +11,9 @@ use borrow.Author.Tests.{ltb-true, ltb-false, eqb-true, eqb-false}
 use Rattle.tlp.specs.declared.completion.Completion.{Completion}
 use Rattle.tlp.specs.declared.completion.CompletionRead.{CompletionRead}
 use Rattle.tlp.specs.declared.completion.CompletionRead.the-variants.{Header, Malformed}
-use Rattle.bridge.specs.declared.Bridge.{Bridge}
-use Rattle.bridge.specs.State.{raise, missingOf, placeOf, ownerOf, isOpen}
-use Rattle.bridge.specs.Completions.{storeSize, Held, held, verdictOf, completionOf, isUnexpected, readRefused, completeRefusal, completed}
+use Rattle.machine.specs.Bridge.{Bridge}
+use Rattle.machine.specs.State.{raise, missingOf, ownerOf, placeOf, isOpen}
+use Rattle.machine.specs.Completions.{storeSize, Held, held, verdictOf, completionOf, isUnexpected, readRefused, completeRefusal, completed}
 use Rattle.bridge_laws.specs.CompletionLaws.{Outside, Kept, Accepted, AcceptedIsOpen, SlotSame, FinishedStays}
 use Rattle.bridge_laws.proofs.Keeping.{kept-same, kept-either, kept-bridge, raise-only, verdict-open, own-slot-only, refused-keeps}
 
@@ -46,7 +46,6 @@ pub kept-slot : (j k t : ℕ) (h x : Held) → j ≢ k → Kept k t h x → Slot
 kept-slot j k t h x n p =
     record {
       state = p .here .state j n;
-      start = ap (λ (l : List ℕ). getD l j 0) (p .here .start);
       size = ap (λ (l : List ℕ). getD l j 0) (p .here .size);
       pieces = p .here .pieces j n;
       fault = p .here .fault j n;

@@ -11,10 +11,10 @@ use Rattle.tags.proofs.Tags.{all-free}
 use Rattle.address.specs.declared.Settings.{Settings}
 use Rattle.address.specs.Settings.{powerAmong, eachFrom, windowRight, apart, windowsRight, settingsRight, settingsNumber, exampleSettings}
 use Rattle.ecam.specs.Registers.{some, decodeBits, isDecodeBit, fresh, shown, localRead, line}
-use Rattle.bridge.specs.declared.Bridge.{Bridge}
-use Rattle.parts.specs.declared.Response.the-variants.{Nothing}
-use Rattle.bridge.specs.State.{tagCount, refusalChange, refusal, accepted, answered, refused, freshCore, freshBridge, newBridge}
-use Rattle.bridge.specs.Take.{stateIn}
+use Rattle.machine.specs.Bridge.{Bridge}
+use Rattle.refusals.specs.declared.Response.the-variants.{Nothing}
+use Rattle.machine.specs.State.{tagCount, refusalChange, refusal, accepted, answered, refused, freshCore, freshBridge, newBridge}
+use Rattle.machine.specs.Take.{stateIn}
 use Rattle.bridge_laws.specs.ConfigLaws.{Fresh, NewIsFresh, NewNumber, NewKeeps, NewIsRight}
 
 no-entry : (n i : ℕ) → getD {A = ℕ} (replicate n 0) i 0 ≡ 0

@@ -10,7 +10,7 @@ use Rattle.common.proofs.Tests.{row, holds}
 use Rattle.tlp.specs.declared.completion.Completion.{Completion}
 use Rattle.verdict.specs.declared.Verdict.{Verdict}
 use Rattle.verdict.specs.declared.Verdict.the-variants.{Unexpected, Good, Poisoned, Failed}
-use Rattle.bridge.specs.Verdict.{causeOf, useful, inOrder, received, memoryVerdict}
+use Rattle.machine.specs.Verdict.{causeOf, useful, inOrder, received, memoryVerdict}
 use Rattle.bridge_laws.specs.CompletionLaws.{IsGood, GoodExactly}
 
 module _ (c : Completion) (missing next : ℕ) where

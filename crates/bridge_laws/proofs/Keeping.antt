@@ -14,18 +14,19 @@ use Rattle.tlp.specs.declared.completion.Completion.{Completion}
 use Rattle.tlp.specs.declared.completion.CompletionRead.{CompletionRead}
 use Rattle.tlp.specs.declared.completion.CompletionRead.the-variants.{Header, Malformed}
 use Rattle.tlp.specs.Completion.{validCompletion}
+use Rattle.burst.specs.Words.{lowerAddress}
 use Rattle.parts.specs.declared.Core.{Core}
-use Rattle.bridge.specs.declared.Bridge.{Bridge}
+use Rattle.machine.specs.Bridge.{Bridge}
 use Rattle.verdict.specs.declared.Cause.{Cause}
 use Rattle.verdict.specs.declared.Cause.the-variants.{Poison}
 use Rattle.verdict.specs.declared.Verdict.{Verdict}
 use Rattle.verdict.specs.declared.Verdict.the-variants.{Unexpected, Good, Poisoned, Failed}
-use Rattle.bridge.specs.State.{bridgeOf, withConfig, coreIn, slotsIn, raisedCore, raise, missingOf, placeOf, ownerOf, isOpen, counted, shut, freed, refusalChange, okay}
-use Rattle.bridge.specs.Verdict.{memoryVerdict, configVerdict, causeBit, causeResponse}
-use Rattle.bridge.specs.Completions.{storeSize, Held, held, zeroed, sizeOf, faulted, failed, finished, pieceClosed, closed, advanced, usefulBytes, memoryCompleted, configAnswer, configCompleted, nextAddress, verdictOf, completionOf, isUnexpected, readRefused, completeRefusal, expected, completedBy, completed}
-use Rattle.bridge.specs.Expected.{Fits, Whole}
+use Rattle.machine.specs.State.{withConfig, coreIn, putMissing, putPlace, putNext, putState, putPieces, putFault, putCause, setPieces, setFault, setCause, raisedCore, raise, missingOf, ownerOf, placeOf, isOpen, isWrite, counted, shut, freed, okay, refusalChange}
+use Rattle.machine.specs.Verdict.{memoryVerdict, configVerdict, causeBit, causeResponse}
+use Rattle.machine.specs.Completions.{storeSize, Held, held, zeroed, sizeOf, faulted, failed, finished, pieceClosed, closed, advanced, usefulBytes, memoryCompleted, configAnswer, configCompleted, nextAddress, verdictOf, completionOf, isUnexpected, readRefused, completeRefusal, expected, completedBy, completed}
+use Rattle.machine.specs.contracts.Expected.{Fits, Whole}
 use Rattle.bridge_laws.specs.CompletionLaws.{Elsewhere, Outside, OnlyHere, BytesOnly, Kept, OwnSlotOnly, MalformedKeeps, RefusedKeeps}
-use Rattle.bridge.proofs.Judging.{never, verdict-fits, read-whole, open-room}
+use Rattle.machine.proofs.Judging.{never, verdict-fits, read-whole, open-room}
 
 -- ---- one table, one store
 
@@ -89,15 +90,62 @@ lies c m p payload (Failed cause) f o l = tt
 -- ---- bridges and stores, verb by verb
 
 module _ (k t : ℕ) where
-  -- all but the parts named
-  only : (b : Bridge) (c : Core) (m p st q f e : List ℕ) → c .ticks ≡ b .core .ticks → Elsewhere t (b .missing) m → Elsewhere t (b .place) p → Elsewhere k (b .state) st → Elsewhere k (b .pieces) q → Elsewhere k (b .fault) f → Elsewhere k (b .cause) e → OnlyHere k t b (bridgeOf (b .settings) c m (b .sent) (b .owner) p st (b .start) (b .size) q f e)
-  only b c m p st q f e x hm hp hst hq hf he =
-      record { settings = refl; ticks = x; sent = refl; owner = refl; start = refl; size = refl; missing = hm; place = hp; state = hst; pieces = hq; fault = hf; cause = he }
-
   -- the core alone
   pub only-core : (b : Bridge) (c : Core) → c .ticks ≡ b .core .ticks → OnlyHere k t b (coreIn c b)
   only-core b c x =
-      only b c (b .missing) (b .place) (b .state) (b .pieces) (b .fault) (b .cause) x (at-same t (b .missing)) (at-same t (b .place)) (at-same k (b .state)) (at-same k (b .pieces)) (at-same k (b .fault)) (at-same k (b .cause))
+      record {
+        settings = refl;
+        ticks = x;
+        sent = refl;
+        owner = refl;
+        kind = refl;
+        size = refl;
+        missing = at-same t (b .missing);
+        place = at-same t (b .place);
+        next = at-same t (b .next);
+        state = at-same k (b .state);
+        pieces = at-same k (b .pieces);
+        fault = at-same k (b .fault);
+        cause = at-same k (b .cause);
+      }
+
+  -- the columns of tag t
+  only-tag : (b : Bridge) (m p n : List ℕ) → Elsewhere t (b .missing) m → Elsewhere t (b .place) p → Elsewhere t (b .next) n → OnlyHere k t b (putMissing m (putPlace p (putNext n b)))
+  only-tag b m p n hm hp hn =
+      record {
+        settings = refl;
+        ticks = refl;
+        sent = refl;
+        owner = refl;
+        kind = refl;
+        size = refl;
+        missing = hm;
+        place = hp;
+        next = hn;
+        state = at-same k (b .state);
+        pieces = at-same k (b .pieces);
+        fault = at-same k (b .fault);
+        cause = at-same k (b .cause);
+      }
+
+  -- the columns of slot k
+  only-slot : (b : Bridge) (st q f e : List ℕ) → Elsewhere k (b .state) st → Elsewhere k (b .pieces) q → Elsewhere k (b .fault) f → Elsewhere k (b .cause) e → OnlyHere k t b (putState st (putPieces q (putFault f (putCause e b))))
+  only-slot b st q f e hs hq hf he =
+      record {
+        settings = refl;
+        ticks = refl;
+        sent = refl;
+        owner = refl;
+        kind = refl;
+        size = refl;
+        missing = at-same t (b .missing);
+        place = at-same t (b .place);
+        next = at-same t (b .next);
+        state = hs;
+        pieces = hq;
+        fault = hf;
+        cause = he;
+      }
 
   same : (b : Bridge) → OnlyHere k t b b
   same b = only-core b (b .core) refl
@@ -109,10 +157,11 @@ module _ (k t : ℕ) where
         ticks = q .ticks ∙ p .ticks;
         sent = q .sent ∙ p .sent;
         owner = q .owner ∙ p .owner;
-        start = q .start ∙ p .start;
+        kind = q .kind ∙ p .kind;
         size = q .size ∙ p .size;
         missing = at-then t (b .missing) (x .missing) (y .missing) (p .missing) (q .missing);
         place = at-then t (b .place) (x .place) (y .place) (p .place) (q .place);
+        next = at-then t (b .next) (x .next) (y .next) (p .next) (q .next);
         state = at-then k (b .state) (x .state) (y .state) (p .state) (q .state);
         pieces = at-then k (b .pieces) (x .pieces) (y .pieces) (p .pieces) (q .pieces);
         fault = at-then k (b .fault) (x .fault) (y .fault) (p .fault) (q .fault);
@@ -127,8 +176,8 @@ module _ (k t : ℕ) where
   unfolding faulted
   faulted-only b place code =
       either (ltb place (getD (b .fault) k 0)) b
-      (slotsIn (b .state) (b .start) (b .size) (b .pieces) (set (b .fault) k place) (set (b .cause) k code) b) b
-      (only b (b .core) (b .missing) (b .place) (b .state) (b .pieces) (set (b .fault) k place) (set (b .cause) k code) refl (at-same t (b .missing)) (at-same t (b .place)) (at-same k (b .state)) (at-same k (b .pieces)) (at-set k (b .fault) place) (at-set k (b .cause) code))
+      (setFault k place (setCause k code b)) b
+      (only-slot b (b .state) (b .pieces) (set (b .fault) k place) (set (b .cause) k code) (at-same k (b .state)) (at-same k (b .pieces)) (at-set k (b .fault) place) (at-set k (b .cause) code))
       (same b)
 
   pub raise-only : (b : Bridge) (i : ℕ) → OnlyHere k t b (raise i b)
@@ -144,12 +193,13 @@ module _ (k t : ℕ) where
   counted-only : (b : Bridge) (n : ℕ) → OnlyHere k t b (counted t n b)
   unfolding counted
   counted-only b n =
-      only b (b .core) (set (b .missing) t (missingOf b t - n)) (set (b .place) t (placeOf b t + n)) (b .state) (b .pieces) (b .fault) (b .cause) refl (at-set t (b .missing) (missingOf b t - n)) (at-set t (b .place) (placeOf b t + n)) (at-same k (b .state)) (at-same k (b .pieces)) (at-same k (b .fault)) (at-same k (b .cause))
+      let a = lowerAddress (nextAddress b t + n) in
+      only-tag b (set (b .missing) t (missingOf b t - n)) (set (b .place) t (placeOf b t + n)) (set (b .next) t a) (at-set t (b .missing) (missingOf b t - n)) (at-set t (b .place) (placeOf b t + n)) (at-set t (b .next) a)
 
   pub shut-only : (b : Bridge) → OnlyHere k t b (shut t b)
   unfolding shut
   shut-only b =
-      only b (b .core) (set (b .missing) t 0) (b .place) (b .state) (b .pieces) (b .fault) (b .cause) refl (at-set t (b .missing) 0) (at-same t (b .place)) (at-same k (b .state)) (at-same k (b .pieces)) (at-same k (b .fault)) (at-same k (b .cause))
+      only-tag b (set (b .missing) t 0) (b .place) (b .next) (at-set t (b .missing) 0) (at-same t (b .place)) (at-same t (b .next))
 
   freed-only : (b : Bridge) → OnlyHere k t b (freed t b)
   unfolding freed
@@ -179,9 +229,9 @@ module _ (k t : ℕ) where
   bytes-either true s x p = bytes-same k s
   bytes-either false s x p = p
 
-  slot-only : (b : Bridge) (st q : List ℕ) → Elsewhere k (b .state) st → Elsewhere k (b .pieces) q → OnlyHere k t b (slotsIn st (b .start) (b .size) q (b .fault) (b .cause) b)
+  slot-only : (b : Bridge) (st q : List ℕ) → Elsewhere k (b .state) st → Elsewhere k (b .pieces) q → OnlyHere k t b (putState st (putPieces q b))
   slot-only b st q x y =
-      only b (b .core) (b .missing) (b .place) st q (b .fault) (b .cause) refl (at-same t (b .missing)) (at-same t (b .place)) x y (at-same k (b .fault)) (at-same k (b .cause))
+      only-slot b st q (b .fault) (b .cause) x y (at-same k (b .fault)) (at-same k (b .cause))
 
   module _ (small : k < 8) where
     finished-kept : (h : Held) → storeSize ≤ length (h .store) → Kept k t h (finished k h)
@@ -197,9 +247,9 @@ module _ (k t : ℕ) where
     unfolding pieceClosed
     piece-kept h l =
         kept-either (leb (getD (h .bridge .pieces) k 0) 1) h (finished k h)
-        (held (slotsIn (h .bridge .state) (h .bridge .start) (h .bridge .size) (set (h .bridge .pieces) k (getD (h .bridge .pieces) k 0 - 1)) (h .bridge .fault) (h .bridge .cause) (h .bridge)) (h .store))
+        (held (setPieces k (getD (h .bridge .pieces) k 0 - 1) (h .bridge)) (h .store))
         (finished-kept h l)
-        (kept-bridge h (slotsIn (h .bridge .state) (h .bridge .start) (h .bridge .size) (set (h .bridge .pieces) k (getD (h .bridge .pieces) k 0 - 1)) (h .bridge .fault) (h .bridge .cause) (h .bridge))
+        (kept-bridge h (setPieces k (getD (h .bridge .pieces) k 0 - 1) (h .bridge))
         (slot-only (h .bridge) (h .bridge .state) (set (h .bridge .pieces) k (getD (h .bridge .pieces) k 0 - 1)) (at-same k (h .bridge .state)) (at-set k (h .bridge .pieces) (getD (h .bridge .pieces) k 0 - 1))))
 
     closed-kept : (h : Held) → storeSize ≤ length (h .store) → Kept k t h (closed t k h)
@@ -253,7 +303,7 @@ pub verdict-open : (b : Bridge) (c : Completion) → isUnexpected (verdictOf b c
 unfolding verdictOf
 verdict-open b c e =
     verdict-open-by b c
-    (cond (ltb (ownerOf b (c .tag)) 8) (memoryVerdict c (missingOf b (c .tag)) (nextAddress b (c .tag))) (configVerdict c (b .core .config .write)))
+    (cond (ltb (ownerOf b (c .tag)) 8) (memoryVerdict c (missingOf b (c .tag)) (nextAddress b (c .tag))) (configVerdict c (isWrite b (c .tag))))
     (eqb (c .requester) (b .settings .requester)) (isOpen (missingOf b (c .tag)) (placeOf b (c .tag))) e
 
 verdict-memory-by : (x y : Verdict) (q o : Bool) → isUnexpected (cond (q && o) (cond true x y) Unexpected) ≡ false → cond (q && o) (cond true x y) Unexpected ≡ x
@@ -266,7 +316,7 @@ pub verdict-memory : (b : Bridge) (c : Completion) → isUnexpected (verdictOf b
 unfolding verdictOf
 verdict-memory b c e m =
     rw m
-    (verdict-memory-by (memoryVerdict c (missingOf b (c .tag)) (nextAddress b (c .tag))) (configVerdict c (b .core .config .write))
+    (verdict-memory-by (memoryVerdict c (missingOf b (c .tag)) (nextAddress b (c .tag))) (configVerdict c (isWrite b (c .tag)))
     (eqb (c .requester) (b .settings .requester)) (isOpen (missingOf b (c .tag)) (placeOf b (c .tag))) (rw m at e))
 
 -- ---- any completion

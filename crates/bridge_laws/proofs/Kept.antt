@@ -4,7 +4,7 @@ use mathlib.Core.Bool.{Bool, true, false, cond, not, _&&_}
 use mathlib.Core.List.{List}
 use Prim.Native.Nat.{ℕ, zero, suc, _+_, _≤_, _<_}
 use native.Mathlib.Omega.{arith}
-use borrow.Author.Tests.{ne-eqb, eqb-false}
+use borrow.Author.Tests.{ne-eqb, eqb-true, eqb-false}
 use lib.ListN.{length, getD, set}
 use lib.Dec.{ltb, leb, eqb}
 use lib.Seq.{getD-set-other}
@@ -15,12 +15,16 @@ use Rattle.tags.proofs.Tags.{lowest-is}
 use Rattle.address.specs.Windows.{foundNumber}
 use Rattle.burst.specs.declared.Burst.{Burst}
 use Rattle.burst.specs.Bursts.{burstNumber, dataNumber}
-use Rattle.bridge.specs.declared.Bridge.{Bridge}
-use Rattle.bridge.specs.State.{tagCount, raise, coreIn, opened, freeSlot, refusal, refused, refusalChange}
-use Rattle.bridge.specs.Memory.{windowFor, piecesOf, pieceOf, placeIn, readRefusal, claimed, readTo, readStep, readArea, writeRefusal, writeStep, writeArea}
+use Rattle.refusals.specs.Table.{Change}
+use Rattle.parts.specs.declared.Pending.{Pending}
+use Rattle.parts.specs.Answers.{changed}
+use Rattle.parts.proofs.Changes.{other-keeps}
+use Rattle.machine.specs.Bridge.{Bridge}
+use Rattle.machine.specs.State.{tagCount, coreIn, raise, opened, freeSlot, refusalChange, refusal, refused}
+use Rattle.machine.specs.Memory.{windowFor, piecesOf, pieceOf, piecePending, readRefusal, claimed, readTo, readStep, readArea, writeRefusal, writeStep, writeArea}
 use Rattle.bridge_laws.specs.MemoryLaws.{ReadKeeps, AcceptedReadKeeps, RefusedRead, RefusedWrite}
-use Rattle.bridge.proofs.Reading.{one-less}
-use Rattle.bridge.proofs.Refusals.{read-ok}
+use Rattle.machine.proofs.Reading.{one-less}
+use Rattle.machine.proofs.Refusals.{read-ok}
 
 -- ---- refusals
 
@@ -53,8 +57,8 @@ write-not-13 b q len room e =
 
 change-by : (x : Bool) (n : ℕ) (b : Bridge) → (n ≡ 13 → ⊥) → eqb n 3 ≡ x → coreIn (refusalChange n (b .core)) b ≡ cond x (raise 25 b) b
 unfolding refusalChange
-change-by true n b h e = rw e
-change-by false n b h e = rw (e, ne-eqb n 13 h)
+change-by true n b h e = ap (λ (x : ℕ). coreIn (refusalChange x (b .core)) b) (eqb-true n 3 e)
+change-by false n b h e = ap (λ (x : Change). coreIn (changed x (b .core)) b) (other-keeps n e (ne-eqb n 13 h))
 
 refused-keeps : (n : ℕ) (b : Bridge) → (n ≡ 13 → ⊥) → (refused n b .bridge ≡ cond (eqb n 3) (raise 25 b) b) × (refused n b .answer ≡ refusal n)
 unfolding refused
@@ -74,14 +78,13 @@ refused-write b q bytes area h =
 
 -- ---- an accepted read
 
--- what opening pieces leaves: all but the free word and the tables at tags that were free
+-- what opening pieces leaves: all but the free word and the columns at tags that were free
 pub record Opens (b c : Bridge) : Type 0 where
   pub settings : c .settings ≡ b .settings
   pub registers : c .core .registers ≡ b .core .registers
   pub ticks : c .core .ticks ≡ b .core .ticks
   pub config : c .core .config ≡ b .core .config
   pub state : c .state ≡ b .state
-  pub start : c .start ≡ b .start
   pub size : c .size ≡ b .size
   pub pieces : c .pieces ≡ b .pieces
   pub fault : c .fault ≡ b .fault
@@ -91,6 +94,8 @@ pub record Opens (b c : Bridge) : Type 0 where
   pub sent : (t : ℕ) → isSet (b .core .free) t ≡ false → getD (c .sent) t 0 ≡ getD (b .sent) t 0
   pub owner : (t : ℕ) → isSet (b .core .free) t ≡ false → getD (c .owner) t 0 ≡ getD (b .owner) t 0
   pub place : (t : ℕ) → isSet (b .core .free) t ≡ false → getD (c .place) t 0 ≡ getD (b .place) t 0
+  pub next : (t : ℕ) → isSet (b .core .free) t ≡ false → getD (c .next) t 0 ≡ getD (b .next) t 0
+  pub kind : (t : ℕ) → isSet (b .core .free) t ≡ false → getD (c .kind) t 0 ≡ getD (b .kind) t 0
 
 -- a tag that is not free is not the lowest free one
 other : (w t : ℕ) → 0 < available tagCount w → isSet w t ≡ false → t ≡ lowest tagCount w → ⊥
@@ -99,25 +104,26 @@ other w t h e f =
     let z : _≡_ {A = ℕ} 0 1 = cc in
     omega arith
 
-opens-one : (slot place n : ℕ) (b : Bridge) → 0 < available tagCount (b .core .free) → Opens b (opened slot place n b)
+opens-one : (r : Pending) (b : Bridge) → 0 < available tagCount (b .core .free) → Opens b (opened r b)
 unfolding opened
-opens-one slot place n b h =
+opens-one r b h =
     record {
       settings = refl;
       registers = refl;
       ticks = refl;
       config = refl;
       state = refl;
-      start = refl;
       size = refl;
       pieces = refl;
       fault = refl;
       cause = refl;
       free = λ t e. clear-clears (b .core .free) (lowest tagCount (b .core .free)) .others t (other (b .core .free) t h e) ∙ e;
-      missing = λ t e. getD-set-other (b .missing) (lowest tagCount (b .core .free)) t n 0 (other (b .core .free) t h e);
+      missing = λ t e. getD-set-other (b .missing) (lowest tagCount (b .core .free)) t (r .missing) 0 (other (b .core .free) t h e);
       sent = λ t e. getD-set-other (b .sent) (lowest tagCount (b .core .free)) t (b .core .ticks) 0 (other (b .core .free) t h e);
-      owner = λ t e. getD-set-other (b .owner) (lowest tagCount (b .core .free)) t slot 0 (other (b .core .free) t h e);
-      place = λ t e. getD-set-other (b .place) (lowest tagCount (b .core .free)) t place 0 (other (b .core .free) t h e);
+      owner = λ t e. getD-set-other (b .owner) (lowest tagCount (b .core .free)) t (r .slot) 0 (other (b .core .free) t h e);
+      place = λ t e. getD-set-other (b .place) (lowest tagCount (b .core .free)) t (r .place) 0 (other (b .core .free) t h e);
+      next = λ t e. getD-set-other (b .next) (lowest tagCount (b .core .free)) t (r .next) 0 (other (b .core .free) t h e);
+      kind = λ t e. getD-set-other (b .kind) (lowest tagCount (b .core .free)) t (r .kind) 0 (other (b .core .free) t h e);
     }
 
 opens-then : (b c d : Bridge) → Opens b c → Opens c d → Opens b d
@@ -128,7 +134,6 @@ opens-then b c d x y =
       ticks = y .ticks ∙ x .ticks;
       config = y .config ∙ x .config;
       state = y .state ∙ x .state;
-      start = y .start ∙ x .start;
       size = y .size ∙ x .size;
       pieces = y .pieces ∙ x .pieces;
       fault = y .fault ∙ x .fault;
@@ -138,6 +143,8 @@ opens-then b c d x y =
       sent = λ t e. y .sent t (x .free t e) ∙ x .sent t e;
       owner = λ t e. y .owner t (x .free t e) ∙ x .owner t e;
       place = λ t e. y .place t (x .free t e) ∙ x .place t e;
+      next = λ t e. y .next t (x .free t e) ∙ x .next t e;
+      kind = λ t e. y .kind t (x .free t e) ∙ x .kind t e;
     }
 
 opens-none : (b : Bridge) → Opens b b
@@ -148,7 +155,6 @@ opens-none b =
       ticks = refl;
       config = refl;
       state = refl;
-      start = refl;
       size = refl;
       pieces = refl;
       fault = refl;
@@ -158,6 +164,8 @@ opens-none b =
       sent = λ t e. refl;
       owner = λ t e. refl;
       place = λ t e. refl;
+      next = λ t e. refl;
+      kind = λ t e. refl;
     }
 
 -- k pieces take k tags
@@ -174,10 +182,10 @@ pub opens-all : (slot : ℕ) (q : Burst) (b : Bridge) (k : ℕ) → k ≤ availa
 unfolding readTo
 opens-all slot q b zero h = opens-none b
 opens-all slot q b (suc k) h =
-    let p = pieceOf (b .settings .reads) q k in
+    let r = piecePending slot (b .settings) q (pieceOf (b .settings .reads) q k) in
     let e = tags-left slot q b k (omega arith) in
-    opens-then b (readTo slot q b k) (opened slot (placeIn q p) (p .length) (readTo slot q b k)) (opens-all slot q b k (omega arith))
-    (opens-one slot (placeIn q p) (p .length) (readTo slot q b k) (omega arith))
+    opens-then b (readTo slot q b k) (opened r (readTo slot q b k)) (opens-all slot q b k (omega arith))
+    (opens-one r (readTo slot q b k) (omega arith))
 
 pub accepted-read-keeps : AcceptedReadKeeps
 unfolding claimed
@@ -190,7 +198,6 @@ accepted-read-keeps b q room e =
       ticks = o .ticks;
       config = o .config;
       state = λ k h. ap (λ (x : List ℕ). getD x k 0) (o .state) ∙ getD-set-other (b .state) (freeSlot b) k _ 0 h;
-      start = λ k h. ap (λ (x : List ℕ). getD x k 0) (o .start) ∙ getD-set-other (b .start) (freeSlot b) k _ 0 h;
       size = λ k h. ap (λ (x : List ℕ). getD x k 0) (o .size) ∙ getD-set-other (b .size) (freeSlot b) k _ 0 h;
       pieces = λ k h. ap (λ (x : List ℕ). getD x k 0) (o .pieces) ∙ getD-set-other (b .pieces) (freeSlot b) k _ 0 h;
       fault = λ k h. ap (λ (x : List ℕ). getD x k 0) (o .fault) ∙ getD-set-other (b .fault) (freeSlot b) k _ 0 h;
@@ -200,4 +207,6 @@ accepted-read-keeps b q room e =
       sent = o .sent;
       owner = o .owner;
       place = o .place;
+      next = o .next;
+      kind = o .kind;
     }

@@ -1,3 +1,5 @@
+-- The rows of the state.
+pub mod Rows
 -- A fresh bridge, configuration accesses, taking an answer.
 pub mod FreshLaws
 pub mod ConfigLaws

@@ -8,8 +8,8 @@ use Rattle.burst.specs.Bursts.{endFrom, burstRight, burstNumber, lengthOf, data
 use Rattle.burst.specs.Pieces.{pieceCount, pieceFirst, pieceEnd, pieceAt}
 use Rattle.burst.specs.Words.{wordAddress, wordCount, firstEnables, lastEnables, wordsOf}
 use Rattle.ecam.specs.Registers.{fresh}
-use Rattle.bridge.specs.State.{freeSlotFrom, freshCore, freshBridge}
-use Rattle.bridge.specs.Memory.{pcieOf, memoryRequest, packet, readRefusal, writeRefusal, writePacket, writeSent}
+use Rattle.machine.specs.State.{freeSlotFrom, freshCore, freshBridge}
+use Rattle.machine.specs.Memory.{pcieOf, memoryRequest, packet, readRefusal, writeRefusal, writePacket, writeSent}
 use Rattle.bridge_laws.specs.MemoryExamples.{WriteTwo, InOrder, W11}
 
 pub write-two : WriteTwo

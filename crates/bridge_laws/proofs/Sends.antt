@@ -26,12 +26,12 @@ use Rattle.burst.specs.Words.{wordAddress, wordCount, wordsBefore}
 use Rattle.burst.proofs.Pieces.{accepted-covers}
 use Rattle.burst.proofs.Tiling.{piece-not-empty, piece-within}
 use Rattle.burst.proofs.Words.{limit-words, same-words, room-for-all, words-bytes}
-use Rattle.bridge.specs.declared.Bridge.{Bridge}
-use Rattle.bridge.specs.State.{tagCount, opened, freeSlot}
-use Rattle.bridge.specs.Memory.{pcieOf, piecesOf, pieceOf, placeIn, pieceRequest, packet, claimed, readTo, readSent, writePacket, writeSent}
+use Rattle.machine.specs.Bridge.{Bridge}
+use Rattle.machine.specs.State.{tagCount, opened, freeSlot}
+use Rattle.machine.specs.Memory.{pcieOf, piecesOf, pieceOf, placeIn, pieceRequest, packet, claimed, readTo, readSent, writePacket, writeSent}
 use Rattle.bridge_laws.specs.MemoryLaws.{Routed, Covered, tagOf, readOf, ReadSends, AcceptedReadSends, writeOf, payloadOf, WriteSends, AcceptedWriteSends}
 use Rattle.packets.proofs.Packets.{packet-valid, header-only, header-short, payload-length}
-use Rattle.bridge.proofs.Refusals.{read-ok, write-ok, data-length}
+use Rattle.machine.proofs.Refusals.{read-ok, write-ok, data-length}
 use Rattle.bridge_laws.proofs.Behind.{row-behind, low-bits-behind, piece-request-valid}
 
 -- one more number at the end

@@ -1,7 +1,7 @@
 -- What an accepted read stores.
 use mathlib.Core.Path.{_≡_, refl, sym, ap, _∙_}
 use mathlib.Core.List.{List}
-use Prim.Native.Nat.{ℕ, zero, suc, _%_, _≤_, _<_}
+use Prim.Native.Nat.{ℕ, zero, suc, _≤_, _<_}
 use native.Mathlib.Omega.{arith}
 use native.Mathlib.Decide.{decLt}
 use lib.ListN.{length, getD, set, length-set}
@@ -11,11 +11,12 @@ use Rattle.tags.proofs.Tags.{listed-is-free, rising}
 use Rattle.burst.specs.declared.Burst.{Burst}
 use Rattle.burst.specs.declared.Piece.{Piece}
 use Rattle.burst.specs.Bursts.{lengthOf}
-use Rattle.bridge.specs.declared.Bridge.{Bridge}
-use Rattle.bridge.specs.State.{tagCount, opened, freeSlot}
-use Rattle.bridge.specs.Memory.{piecesOf, pieceOf, placeIn, claimed, readTo}
+use Rattle.burst.specs.Words.{lowerAddress}
+use Rattle.machine.specs.Bridge.{Bridge}
+use Rattle.machine.specs.State.{tagCount, memoryRead, opened, freeSlot}
+use Rattle.machine.specs.Memory.{pcieOf, piecesOf, pieceOf, placeIn, claimed, readTo}
 use Rattle.bridge_laws.specs.MemoryLaws.{tagOf, ReadOpens, AcceptedReadOpens}
-use Rattle.bridge.proofs.Refusals.{read-ok}
+use Rattle.machine.proofs.Refusals.{read-ok}
 use Rattle.bridge_laws.proofs.Kept.{Opens, opens-all}
 use Rattle.bridge_laws.proofs.Sends.{word, turn}
 
@@ -49,6 +50,9 @@ module _ (b : Bridge) (q : Burst) (slot : ℕ) (enough : piecesOf (b .settings .
 
   abbrev p : ℕ → Piece
   p k = pieceOf (b .settings .reads) q k
+
+  abbrev nextOf : ℕ → ℕ
+  nextOf k = lowerAddress (pcieOf (b .settings .windows) q (p k .first))
 
   tags-rise : (i j : ℕ) → i < j → j < n → tagOf b i < tagOf b j
   tags-rise i j h g = rising tagCount (b .core .free) i j h (omega arith)
@@ -93,6 +97,20 @@ module _ (b : Bridge) (q : Burst) (slot : ℕ) (enough : piecesOf (b .settings .
   place-at : length (b .place) ≡ 32 → (k : ℕ) → k < n → getD (readTo slot q b n .place) (tagOf b k) 0 ≡ placeIn q (p k)
   place-at e = at-turn n (tagOf b) (λ k. placeIn q (p k)) (λ j. readTo slot q b j .place) place-step tags-rise (tag-fits (readTo slot q b 0 .place) (ap (λ (x : Bridge). length (x .place)) none-yet ∙ e)) n (omega arith)
 
+  next-step : (j : ℕ) → j < n → readTo slot q b (suc j) .next ≡ set (readTo slot q b j .next) (tagOf b j) (nextOf j)
+  unfolding readTo opened
+  next-step j h = ap (λ (t : ℕ). set (readTo slot q b j .next) t (nextOf j)) (lowest-is-tag j h)
+
+  next-at : length (b .next) ≡ 32 → (k : ℕ) → k < n → getD (readTo slot q b n .next) (tagOf b k) 0 ≡ nextOf k
+  next-at e = at-turn n (tagOf b) (λ k. nextOf k) (λ j. readTo slot q b j .next) next-step tags-rise (tag-fits (readTo slot q b 0 .next) (ap (λ (x : Bridge). length (x .next)) none-yet ∙ e)) n (omega arith)
+
+  kind-step : (j : ℕ) → j < n → readTo slot q b (suc j) .kind ≡ set (readTo slot q b j .kind) (tagOf b j) memoryRead
+  unfolding readTo opened
+  kind-step j h = ap (λ (t : ℕ). set (readTo slot q b j .kind) t memoryRead) (lowest-is-tag j h)
+
+  kind-at : length (b .kind) ≡ 32 → (k : ℕ) → k < n → getD (readTo slot q b n .kind) (tagOf b k) 0 ≡ memoryRead
+  kind-at e = at-turn n (tagOf b) (λ k. memoryRead) (λ j. readTo slot q b j .kind) kind-step tags-rise (tag-fits (readTo slot q b 0 .kind) (ap (λ (x : Bridge). length (x .kind)) none-yet ∙ e)) n (omega arith)
+
 pub accepted-read-opens : AcceptedReadOpens
 unfolding claimed
 accepted-read-opens b q room t e =
@@ -106,8 +124,9 @@ accepted-read-opens b q room t e =
       sent = sent-at c q k (ok .tags) (t .sent);
       owner = owner-at c q k (ok .tags) (t .owner);
       place = place-at c q k (ok .tags) (t .place);
+      next = next-at c q k (ok .tags) (t .next);
+      kind = kind-at c q k (ok .tags) (t .kind);
       state = ap (λ (x : List ℕ). getD x k 0) (o .state) ∙ getD-set-same (b .state) k 1 0 (omega (arith, ok .slot, t .state));
-      start = ap (λ (x : List ℕ). getD x k 0) (o .start) ∙ getD-set-same (b .start) k (q .start .0 % 4096) 0 (omega (arith, ok .slot, t .start));
       size = ap (λ (x : List ℕ). getD x k 0) (o .size) ∙ getD-set-same (b .size) k (lengthOf q) 0 (omega (arith, ok .slot, t .size));
       pieces = ap (λ (x : List ℕ). getD x k 0) (o .pieces) ∙ getD-set-same (b .pieces) k (piecesOf (b .settings .reads) q) 0 (omega (arith, ok .slot, t .pieces));
       fault = ap (λ (x : List ℕ). getD x k 0) (o .fault) ∙ getD-set-same (b .fault) k 4096 0 (omega (arith, ok .slot, t .fault));

@@ -8,12 +8,12 @@ use borrow.Author.Tests.{lt-ltb, le-ltb, eq-eqb, ne-eqb, ltb-true, ltb-false, eq
 use lib.ListN.{length, getD, set, take, drop, length-drop, take-append-drop}
 use lib.Seq.{getD-set-other, getD-take, getD-drop, length-take-le}
 use lib.Dec.{ltb, eqb}
-use Rattle.common.specs.Tests.{firstOf}
-use Rattle.bridge.specs.declared.Bridge.{Bridge}
+use Rattle.refusals.specs.Table.{takeOrder, refusedBy}
+use Rattle.machine.specs.Bridge.{Bridge}
 use Rattle.parts.specs.declared.Core.{Core}
-use Rattle.bridge.specs.State.{coreIn, responseOf, accepted, refusalChange, refusal, answered, refused}
-use Rattle.bridge.specs.Completions.{storeSize, sizeOf}
-use Rattle.bridge.specs.Take.{stateIn, stateOf, takeNumber, takeRefusal, looked, slotFreed, releaseStep}
+use Rattle.machine.specs.State.{coreIn, responseOf, refusalChange, refusal, accepted, answered, refused}
+use Rattle.machine.specs.Completions.{storeSize, sizeOf}
+use Rattle.machine.specs.Take.{stateIn, stateOf, takeNumber, takeRefusal, looked, slotFreed, releaseStep}
 use Rattle.bridge_laws.specs.ConfigLaws.{ReleaseNumber, TakeRefused, PartOf, LookIsPart, LookAtSlot, LookAtConfig, Released, ReleaseFrees, ReleaseOnce}
 
 -- ---- the refusals
@@ -26,7 +26,7 @@ passed : (room found : ℕ) → takeNumber room found ≡ 0 → Passed room foun
 unfolding takeNumber
 passed room found e = by (ltb room storeSize) (eqb found 2) refl refl e
   where
-    by : (p q : Bool) → ltb room storeSize ≡ p → eqb found 2 ≡ q → firstOf ((p, 8) ∷ (not q, 14) ∷ []) ≡ 0 → Passed room found
+    by : (p q : Bool) → ltb room storeSize ≡ p → eqb found 2 ≡ q → refusedBy takeOrder (p ∷ not q ∷ []) ≡ 0 → Passed room found
     by true q ep eq e = absurd (omega arith)
     by false false ep eq e = absurd (omega arith)
     by false true ep eq e = record { long = ltb-false _ _ ep; finished = eqb-true _ _ eq }
@@ -36,7 +36,7 @@ kept : (room found : ℕ) (c : Core) → refusalChange (takeNumber room found) c
 unfolding takeNumber refusalChange
 kept room found c = by (ltb room storeSize) (eqb found 2)
   where
-    by : (p q : Bool) → refusalChange (firstOf ((p, 8) ∷ (not q, 14) ∷ [])) c ≡ c
+    by : (p q : Bool) → refusalChange (refusedBy takeOrder (p ∷ not q ∷ [])) c ≡ c
     by true q = refl
     by false false = refl
     by false true = refl

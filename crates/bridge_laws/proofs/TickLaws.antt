@@ -12,11 +12,11 @@ use lib.Dec.{ltb, leb, eqb}
 use borrow.Author.Tests.{ltb-true, lt-ltb, ltb-false, eqb-true}
 use Rattle.common.proofs.Tests.{and-left}
 use Rattle.verdict.specs.declared.Cause.the-variants.{Timeout}
-use Rattle.bridge.specs.declared.Bridge.{Bridge}
+use Rattle.machine.specs.Bridge.{Bridge}
 use Rattle.parts.specs.declared.Core.{Core}
-use Rattle.bridge.specs.State.{tagCount, withConfig, withTicks, raisedCore, coreIn, tagsIn, missingOf, placeOf, ownerOf, isOpen, shut, slverr}
-use Rattle.bridge.specs.Completions.{storeSize, Held, held, zeroed, sizeOf, failed, finished, pieceClosed, configDone}
-use Rattle.bridge.specs.Ticks.{nextTick, ageOf, isOld, timedOut, expire, expireTo, ticked, linkIn, linkLost, dropSlot, dropSlots, linked}
+use Rattle.machine.specs.State.{tagCount, withTicks, withConfig, coreIn, putMissing, raisedCore, missingOf, ownerOf, placeOf, isOpen, shut, slverr}
+use Rattle.machine.specs.Completions.{storeSize, Held, held, zeroed, sizeOf, failed, finished, pieceClosed, configDone}
+use Rattle.machine.specs.Ticks.{nextTick, ageOf, isOld, timedOut, expire, expireTo, ticked, linkIn, linkLost, dropSlot, dropSlots, linked}
 use Rattle.bridge_laws.specs.CompletionLaws.{Kept, OnlyHere, SlotSame}
 use Rattle.bridge_laws.specs.TickLaws.{RefusedTick, RefusedLink, TickStays, LinkStays}
 use Rattle.bridge_laws.proofs.Keeping.{only-core, then, failed-only, shut-only, kept-then, kept-bridge, piece-kept, zeroed-only}
@@ -34,18 +34,17 @@ refused-link up h l = rw (lt-ltb _ _ l)
 
 slot-same : (j : ℕ) (h : Held) → SlotSame j h h
 slot-same j h =
-    record { state = refl; start = refl; size = refl; pieces = refl; fault = refl; cause = refl; bytes = λ i l. refl }
+    record { state = refl; size = refl; pieces = refl; fault = refl; cause = refl; bytes = λ i l. refl }
 
--- whatever the core and the tables by tag become
-slot-core : (j : ℕ) (h : Held) (c : Core) (m t o p : List ℕ) → SlotSame j h (held (coreIn c (tagsIn m t o p (h .bridge))) (h .store))
-slot-core j h c m t o p =
-    record { state = refl; start = refl; size = refl; pieces = refl; fault = refl; cause = refl; bytes = λ i l. refl }
+-- whatever the core and the missing counts become
+slot-core : (j : ℕ) (h : Held) (c : Core) (m : List ℕ) → SlotSame j h (held (coreIn c (putMissing m (h .bridge))) (h .store))
+slot-core j h c m =
+    record { state = refl; size = refl; pieces = refl; fault = refl; cause = refl; bytes = λ i l. refl }
 
 slot-then : (j : ℕ) (h x y : Held) → SlotSame j h x → SlotSame j x y → SlotSame j h y
 slot-then j h x y p q =
     record {
       state = q .state ∙ p .state;
-      start = q .start ∙ p .start;
       size = q .size ∙ p .size;
       pieces = q .pieces ∙ p .pieces;
       fault = q .fault ∙ p .fault;
@@ -149,7 +148,7 @@ tick-by h j f true z = rw z (slot-same j h)
 tick-by h j f false z =
     let x = held (coreIn (withTicks (nextTick (h .bridge .core .ticks)) (h .bridge .core)) (h .bridge)) (h .store) in
     let p = expire-all x j tagCount (ltb-false _ _ z) f in
-    rw z (slot-then j h x (expireTo x tagCount) (slot-core j h (x .bridge .core) (h .bridge .missing) (h .bridge .sent) (h .bridge .owner) (h .bridge .place)) (p .slot))
+    rw z (slot-then j h x (expireTo x tagCount) (slot-core j h (x .bridge .core) (h .bridge .missing)) (p .slot))
 
 pub tick-stays : TickStays
 tick-stays h j f = tick-by h j f (ltb (length (h .store)) storeSize) refl
@@ -170,7 +169,6 @@ drop-left h k j small l o true z =
       slot =
           record {
             state = getD-set-other (h .bridge .state) k j 2 0 n;
-            start = refl;
             size = refl;
             pieces = getD-set-other (h .bridge .pieces) k j 0 0 n;
             fault = refl;
@@ -195,9 +193,9 @@ unfolding linked linkLost
 link-by up h j o true y z w = rw z (slot-same j h)
 link-by up h j o false true z w =
     let x = held (linkLost (h .bridge)) (h .store) in
-    rw (z, w) (slot-then j h x (dropSlots x 8) (slot-core j h (x .bridge .core) (x .bridge .missing) (h .bridge .sent) (h .bridge .owner) (h .bridge .place)) (drops-left x j 8 (omega arith) (ltb-false _ _ z) o .slot))
+    rw (z, w) (slot-then j h x (dropSlots x 8) (slot-core j h (x .bridge .core) (x .bridge .missing)) (drops-left x j 8 (omega arith) (ltb-false _ _ z) o .slot))
 link-by up h j o false false z w =
-    rw (z, w) (slot-core j h (linkIn up (h .bridge .core)) (h .bridge .missing) (h .bridge .sent) (h .bridge .owner) (h .bridge .place))
+    rw (z, w) (slot-core j h (linkIn up (h .bridge .core)) (h .bridge .missing))
 
 pub link-stays : LinkStays
 link-stays up h j o = link-by up h j o (ltb (length (h .store)) storeSize) (not up && h .bridge .core .registers .link) refl refl

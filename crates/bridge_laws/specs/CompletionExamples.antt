@@ -2,18 +2,18 @@
 use Prim.Native.Nat.{ℕ, _^_}
 use mathlib.Core.Path.{_≡_}
 use mathlib.Core.List.{List, [], _∷_}
-use lib.ListN.{getD, set, take, replicate}
+use lib.ListN.{getD, take, replicate}
 use Rattle.address.specs.Settings.{exampleSettings}
-use Rattle.bridge.specs.declared.Bridge.{Bridge}
-use Rattle.bridge.specs.State.{slotsIn, freshBridge, opened, missingOf}
-use Rattle.bridge.specs.Completions.{Held, held, completed, completeRefusal}
+use Rattle.machine.specs.Bridge.{Bridge}
+use Rattle.parts.specs.Pendings.{memoryPending}
+use Rattle.machine.specs.State.{slotSize, slotOpen, setState, setSize, setPieces, setFault, missingOf, opened, freshBridge}
+use Rattle.machine.specs.Completions.{Held, held, completed, completeRefusal}
 
 -- slot 0 waits for 6 bytes from ABE on, all of tag 0
 abbrev pub waiting : Bridge
 waiting =
-    opened 0 0 6
-    (slotsIn (set (replicate 8 0) 0 1) (set (replicate 8 0) 0 0xABE) (set (replicate 8 0) 0 6) (set (replicate 8 0) 0 1)
-    (set (replicate 8 0) 0 4096) (replicate 8 0) (freshBridge exampleSettings))
+    opened (memoryPending 0 0 6 0x56710ABE)
+    (setState 0 slotOpen (setSize 0 6 (setPieces 0 1 (setFault 0 slotSize (freshBridge exampleSettings)))))
 
 -- a store of 32,768 bytes, all 9
 abbrev pub waitingStore : Held

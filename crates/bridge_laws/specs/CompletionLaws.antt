@@ -2,18 +2,21 @@
 use Prim.Native.Nat.{ℕ, _+_, _-_, _*_, _%_, _≤_, _<_}
 use mathlib.Core.Path.{_≡_}
 use mathlib.Core.Logic.{_⊎_, _≢_}
-use mathlib.Core.List.{List}
-use mathlib.Core.Bool.{true, false, cond}
+use mathlib.Core.List.{List, [], _∷_}
+use mathlib.Core.Bool.{Bool, true, false, cond}
 use lib.ListN.{length, getD, drop}
-use lib.Dec.{eqb}
+use lib.Dec.{eqb, ltb}
+use Rattle.burst.specs.Words.{lowerAddress}
 use Rattle.tlp.specs.declared.completion.Completion.{Completion}
+use Rattle.tlp.specs.declared.completion.CompletionRead.{CompletionRead}
 use Rattle.tlp.specs.declared.completion.CompletionRead.the-variants.{Header, Malformed}
-use Rattle.bridge.specs.declared.Bridge.{Bridge}
+use Rattle.refusals.specs.Table.{refusedBy, completionOrder}
+use Rattle.machine.specs.Bridge.{Bridge}
 use Rattle.verdict.specs.declared.Verdict.{Verdict}
 use Rattle.verdict.specs.declared.Verdict.the-variants.{Unexpected, Good, Poisoned}
-use Rattle.bridge.specs.State.{raise, missingOf, placeOf, ownerOf, isOpen}
-use Rattle.bridge.specs.Verdict.{useful, memoryVerdict, configVerdict}
-use Rattle.bridge.specs.Completions.{storeSize, Held, held, memoryCompleted, configCompleted, nextAddress, verdictOf, completionOf, isUnexpected, completeRefusal, completed}
+use Rattle.machine.specs.State.{raise, missingOf, ownerOf, placeOf, isOpen, isWrite}
+use Rattle.machine.specs.Verdict.{useful, memoryVerdict, configVerdict}
+use Rattle.machine.specs.Completions.{storeSize, Held, held, memoryCompleted, configCompleted, nextAddress, verdictOf, completionOf, isUnexpected, completeRefusal, completed}
 
 -- ---- what a completion leaves as it is
 
@@ -31,10 +34,11 @@ pub record OnlyHere (k t : ℕ) (b x : Bridge) : Type 0 where
   pub ticks : x .core .ticks ≡ b .core .ticks
   pub sent : x .sent ≡ b .sent
   pub owner : x .owner ≡ b .owner
-  pub start : x .start ≡ b .start
+  pub kind : x .kind ≡ b .kind
   pub size : x .size ≡ b .size
   pub missing : Elsewhere t (b .missing) (x .missing)
   pub place : Elsewhere t (b .place) (x .place)
+  pub next : Elsewhere t (b .next) (x .next)
   pub state : Elsewhere k (b .state) (x .state)
   pub pieces : Elsewhere k (b .pieces) (x .pieces)
   pub fault : Elsewhere k (b .fault) (x .fault)
@@ -81,7 +85,6 @@ AcceptedIsOpen = (b : Bridge) (room : ℕ) (s : List ℕ) → completeRefusal b 
 -- slot j's parts and its 4,096 bytes are the same
 pub record SlotSame (j : ℕ) (h x : Held) : Type 0 where
   pub state : getD (x .bridge .state) j 0 ≡ getD (h .bridge .state) j 0
-  pub start : getD (x .bridge .start) j 0 ≡ getD (h .bridge .start) j 0
   pub size : getD (x .bridge .size) j 0 ≡ getD (h .bridge .size) j 0
   pub pieces : getD (x .bridge .pieces) j 0 ≡ getD (h .bridge .pieces) j 0
   pub fault : getD (x .bridge .fault) j 0 ≡ getD (h .bridge .fault) j 0
@@ -113,7 +116,12 @@ GoodExactly =
     → ((n : ℕ) → memoryVerdict c missing next ≡ Good n → IsGood c missing next × (n ≡ useful c missing))
     × (IsGood c missing next → memoryVerdict c missing next ≡ Good (useful c missing))
 
--- n useful bytes count down the missing ones of their tag, good or poisoned, and move its place on
+-- n useful bytes count down the missing ones of their tag, good or poisoned, and move its place and its next address on
+pub record Counts (t n : ℕ) (b x : Bridge) : Type 0 where
+  pub missing : missingOf x t ≡ missingOf b t - n
+  pub place : placeOf x t ≡ placeOf b t + n
+  pub next : t < length (b .next) → nextAddress x t ≡ lowerAddress (nextAddress b t + n)
+
 abbrev pub CountsDown : Type 0
 CountsDown =
     (h : Held) (t k skip n : ℕ) (payload : List ℕ)
@@ -121,8 +129,25 @@ CountsDown =
     → t < length (h .bridge .place)
     → (v : Verdict)
     → (v ≡ Good n) ⊎ (v ≡ Poisoned n)
-    → (missingOf (memoryCompleted h t k skip payload v .bridge) t ≡ missingOf (h .bridge) t - n)
-    × (placeOf (memoryCompleted h t k skip payload v .bridge) t ≡ placeOf (h .bridge) t + n)
+    → Counts t n (h .bridge) (memoryCompleted h t k skip payload v .bridge)
+
+-- ---- the order of its refusals
+
+abbrev pub isMalformed : CompletionRead → Bool
+isMalformed (Header c) = false
+isMalformed Malformed = true
+
+abbrev pub isNotExpected : Bridge → CompletionRead → Bool
+isNotExpected b (Header c) = isUnexpected (verdictOf b c)
+isNotExpected b Malformed = false
+
+-- 'completion 8, 12, 13': the first number of the table's order whose test holds
+abbrev pub CompletionOrder : Type 0
+CompletionOrder =
+    (b : Bridge) (room : ℕ) (s : List ℕ)
+    → completeRefusal b room s
+    ≡ refusedBy completionOrder
+    (ltb room storeSize ∷ isMalformed (completionOf s) ∷ isNotExpected b (completionOf s) ∷ [])
 
 -- ---- what can come of a completion
 
@@ -150,7 +175,7 @@ pub data Came (h : Held) (s : List ℕ) : Held → ℕ → Type 0 where
       → c .requester ≡ h .bridge .settings .requester
       → isOpen (missingOf (h .bridge) (c .tag)) (placeOf (h .bridge) (c .tag)) ≡ true
       → 8 ≤ ownerOf (h .bridge) (c .tag)
-      → configVerdict c (h .bridge .core .config .write) ≡ v
+      → configVerdict c (isWrite (h .bridge) (c .tag)) ≡ v
       → isUnexpected v ≡ false
       → Came h s (held (configCompleted (h .bridge) (c .tag) (drop 12 s) v) (h .store)) 0
 

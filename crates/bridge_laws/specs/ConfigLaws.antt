@@ -15,12 +15,12 @@ use Rattle.ecam.specs.declared.Route.{Route}
 use Rattle.ecam.specs.declared.Route.the-variants.{Local}
 use Rattle.ecam.specs.Registers.{fresh, localRead, localWrite}
 use Rattle.parts.specs.declared.Core.{Core}
-use Rattle.bridge.specs.declared.Bridge.{Bridge}
-use Rattle.bridge.specs.State.{tagCount, withRegisters, withConfig, coreIn, missingOf, okay, refusal, answered, newBridge, registersOf, lineOf}
-use Rattle.bridge.specs.Passing.{Passed}
-use Rattle.bridge.specs.Config.{Access, routeOf, goesOut, configNumber, configRefusal, routedRequest, payloadOf, configBytes, configStep, configArea}
-use Rattle.bridge.specs.Completions.{sizeOf}
-use Rattle.bridge.specs.Take.{stateOf, takeRefusal, looked, statesIn, releaseStep}
+use Rattle.machine.specs.Bridge.{Bridge}
+use Rattle.machine.specs.State.{tagCount, withRegisters, withConfig, doneConfig, coreIn, putState, missingOf, okay, refusal, answered, newBridge, registersOf, lineOf}
+use Rattle.machine.specs.contracts.Passing.{Passed}
+use Rattle.machine.specs.Config.{Access, routeOf, goesOut, configNumber, configRefusal, routedRequest, payloadOf, configBytes, configStep, configArea}
+use Rattle.machine.specs.Completions.{sizeOf}
+use Rattle.machine.specs.Take.{stateOf, takeRefusal, looked, releaseStep}
 
 -- ---- a fresh bridge
 
@@ -82,7 +82,7 @@ LocalReadFinishes =
     → a .write ≡ false
     → configRefusal b a room ≡ 0
     → configStep b a room .bridge
-    ≡ coreIn (withConfig (record { state = 2; write = false; response = okay; word = localRead (registersOf b) w }) (b .core)) b
+    ≡ coreIn (withConfig (doneConfig false okay (localRead (registersOf b) w)) (b .core)) b
 
 -- an accepted local write changes the registers as its word, strobes and data say, and finishes the slot with word 0
 abbrev pub LocalWriteFinishes : Type 0
@@ -94,7 +94,7 @@ LocalWriteFinishes =
     → configStep b a room .bridge
     ≡ coreIn
     (withRegisters (localWrite (registersOf b) w (a .strobes) (a .word))
-    (withConfig (record { state = 2; write = true; response = okay; word = 0 }) (b .core))) b
+    (withConfig (doneConfig true okay 0) (b .core))) b
 
 -- an accepted access that goes out leaves one free tag less: no register, read slot or other tag changes
 pub record Opens (b c : Bridge) : Type 0 where
@@ -170,7 +170,7 @@ pub record Released (b : Bridge) (k : ℕ) (c : Bridge) : Type 0 where
   pub free : stateOf c k ≡ 0
   pub others : (j : ℕ) → (j ≡ k → ⊥) → stateOf c j ≡ stateOf b j
   pub config : k < 8 → c .core .config ≡ b .core .config
-  pub rest : c ≡ coreIn (withConfig (c .core .config) (b .core)) (statesIn (c .state) (b .cause) b)
+  pub rest : c ≡ coreIn (withConfig (c .core .config) (b .core)) (putState (c .state) b)
 
 abbrev pub ReleaseFrees : Type 0
 ReleaseFrees = (b : Bridge) (room k : ℕ) → takeRefusal b room k ≡ 0 → Released b k (releaseStep b room k .bridge)

@@ -8,13 +8,13 @@ use Rattle.address.specs.declared.Settings.{Settings}
 use Rattle.address.specs.Settings.{exampleSettings, exampleWindows}
 use Rattle.burst.specs.Examples as burst
 use Rattle.ecam.specs.Examples as ecam
-use Rattle.bridge.specs.declared.Bridge.{Bridge}
-use Rattle.bridge.specs.State.{withRegisters, withTicks, coreIn, freshBridge, missingOf}
-use Rattle.bridge.specs.Memory.{areaSize, readRefusal, readStep, readBytes}
-use Rattle.bridge.specs.Config.{Access, accessOf, configRefusal, configBytes}
+use Rattle.machine.specs.Bridge.{Bridge}
+use Rattle.machine.specs.State.{withRegisters, withTicks, coreIn, missingOf, freshBridge}
+use Rattle.machine.specs.Memory.{areaSize, readRefusal, readStep, readBytes}
+use Rattle.machine.specs.Config.{Access, accessOf, configRefusal, configBytes}
 use Rattle.bridge_laws.specs.CompletionExamples.{W3Completed}
-use Rattle.bridge.specs.Completions.{storeSize, Held, held}
-use Rattle.bridge.specs.Ticks.{withLink, linked, ticked}
+use Rattle.machine.specs.Completions.{storeSize, Held, held}
+use Rattle.machine.specs.Ticks.{withLink, linked, ticked}
 
 -- a store of zeros
 abbrev pub emptyStore : List ℕ
@@ -52,7 +52,7 @@ pub record W10 : Type 0 where
 
 -- a bridge with these bus numbers, its link up
 abbrev pub busBridge : Settings → ℕ → ℕ → ℕ → Bridge
-busBridge s p q r = coreIn (withRegisters (withLink true (ecam.buses p q r)) (freshBridge s .core)) (freshBridge s)
+busBridge s p q r = coreIn (withRegisters (withLink (ecam.buses p q r) true) (freshBridge s .core)) (freshBridge s)
 
 abbrev pub narrowSettings : Settings
 narrowSettings = record { windows = exampleWindows; bits = 1; reads = 128; writes = 128; limit = 65535; requester = 0 }

@@ -1,4 +1,5 @@
 -- What is proved of the bridge's definitions, and the worked examples on them.
+pub mod RowLaws
 pub mod MemoryLaws
 pub mod ConfigLaws
 pub mod CompletionLaws

@@ -5,10 +5,10 @@ use mathlib.Core.Bool.{true}
 use Prim.Native.Nat.{_-_, _^_}
 use Rattle.address.specs.Settings.{exampleSettings}
 use Rattle.burst.specs.Examples.{incr}
-use Rattle.bridge.specs.declared.Bridge.{Bridge}
-use Rattle.bridge.specs.State.{withFree, coreIn, freshBridge}
-use Rattle.bridge.specs.Ticks.{linkIn}
-use Rattle.bridge.specs.Memory.{readRefusal, writeRefusal, writeBytes}
+use Rattle.machine.specs.Bridge.{Bridge}
+use Rattle.machine.specs.State.{withFree, coreIn, freshBridge}
+use Rattle.machine.specs.Ticks.{linkIn}
+use Rattle.machine.specs.Memory.{readRefusal, writeRefusal, writeBytes}
 
 -- a fresh bridge with the example settings, and the same with its link up
 abbrev pub down : Bridge

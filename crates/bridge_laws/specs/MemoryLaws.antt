@@ -22,10 +22,10 @@ use Rattle.burst.specs.declared.Burst.{Burst}
 use Rattle.burst.specs.declared.Piece.{Piece}
 use Rattle.burst.specs.Bursts.{burstNumber, lengthOf}
 use Rattle.burst.specs.Pieces.{addresses, pieces}
-use Rattle.burst.specs.Words.{wordAddress, wanted, wordsOf}
-use Rattle.bridge.specs.declared.Bridge.{Bridge}
-use Rattle.bridge.specs.State.{tagCount, raise, freeSlot, refusal}
-use Rattle.bridge.specs.Memory.{windowFor, pcieOf, piecesOf, pieceOf, placeIn, memoryRequest, pieceRequest, packet, readRefusal, readBridge, readBytes, readStep, readArea, writeRefusal, writeBytes, writeStep, writeArea}
+use Rattle.burst.specs.Words.{wordAddress, lowerAddress, wanted, wordsOf}
+use Rattle.machine.specs.Bridge.{Bridge}
+use Rattle.machine.specs.State.{tagCount, slotCount, slotSize, slotOpen, memoryRead, raise, freeSlot, refusal}
+use Rattle.machine.specs.Memory.{windowFor, pcieOf, piecesOf, pieceOf, placeIn, memoryRequest, pieceRequest, packet, readRefusal, readBridge, readBytes, readStep, readArea, writeRefusal, writeBytes, writeStep, writeArea}
 
 -- ## Behind the window
 
@@ -120,7 +120,7 @@ abbrev pub AcceptedReadSends : Type 0
 AcceptedReadSends =
     (b : Bridge) (q : Burst) (room : ℕ) → settingsNumber (b .settings) ≡ 0 → readRefusal b q room ≡ 0 → ReadSends b q
 
--- what it leaves as it was: settings, registers, ticks, configuration slot; the tables at other slots, and at tags that are
+-- what it leaves as it was: settings, registers, ticks, configuration slot; the columns at other slots, and at tags that are
 -- not free
 pub record ReadKeeps (b c : Bridge) : Type 0 where
   pub settings : c .settings ≡ b .settings
@@ -128,7 +128,6 @@ pub record ReadKeeps (b c : Bridge) : Type 0 where
   pub ticks : c .core .ticks ≡ b .core .ticks
   pub config : c .core .config ≡ b .core .config
   pub state : (k : ℕ) → (k ≡ freeSlot b → ⊥) → getD (c .state) k 0 ≡ getD (b .state) k 0
-  pub start : (k : ℕ) → (k ≡ freeSlot b → ⊥) → getD (c .start) k 0 ≡ getD (b .start) k 0
   pub size : (k : ℕ) → (k ≡ freeSlot b → ⊥) → getD (c .size) k 0 ≡ getD (b .size) k 0
   pub pieces : (k : ℕ) → (k ≡ freeSlot b → ⊥) → getD (c .pieces) k 0 ≡ getD (b .pieces) k 0
   pub fault : (k : ℕ) → (k ≡ freeSlot b → ⊥) → getD (c .fault) k 0 ≡ getD (b .fault) k 0
@@ -138,22 +137,25 @@ pub record ReadKeeps (b c : Bridge) : Type 0 where
   pub sent : (t : ℕ) → isSet (b .core .free) t ≡ false → getD (c .sent) t 0 ≡ getD (b .sent) t 0
   pub owner : (t : ℕ) → isSet (b .core .free) t ≡ false → getD (c .owner) t 0 ≡ getD (b .owner) t 0
   pub place : (t : ℕ) → isSet (b .core .free) t ≡ false → getD (c .place) t 0 ≡ getD (b .place) t 0
+  pub next : (t : ℕ) → isSet (b .core .free) t ≡ false → getD (c .next) t 0 ≡ getD (b .next) t 0
+  pub kind : (t : ℕ) → isSet (b .core .free) t ≡ false → getD (c .kind) t 0 ≡ getD (b .kind) t 0
 
 abbrev pub AcceptedReadKeeps : Type 0
 AcceptedReadKeeps = (b : Bridge) (q : Burst) (room : ℕ) → readRefusal b q room ≡ 0 → ReadKeeps b (readBridge b q)
 
--- the tables have their lengths, as those of every value of the type have
+-- the columns have an entry for each tag and each slot
 pub record Tables (b : Bridge) : Type 0 where
-  pub missing : length (b .missing) ≡ 32
-  pub sent : length (b .sent) ≡ 32
-  pub owner : length (b .owner) ≡ 32
-  pub place : length (b .place) ≡ 32
-  pub state : length (b .state) ≡ 8
-  pub start : length (b .start) ≡ 8
-  pub size : length (b .size) ≡ 8
-  pub pieces : length (b .pieces) ≡ 8
-  pub fault : length (b .fault) ≡ 8
-  pub cause : length (b .cause) ≡ 8
+  pub missing : length (b .missing) ≡ tagCount
+  pub sent : length (b .sent) ≡ tagCount
+  pub owner : length (b .owner) ≡ tagCount
+  pub place : length (b .place) ≡ tagCount
+  pub next : length (b .next) ≡ tagCount
+  pub kind : length (b .kind) ≡ tagCount
+  pub state : length (b .state) ≡ slotCount
+  pub size : length (b .size) ≡ slotCount
+  pub pieces : length (b .pieces) ≡ slotCount
+  pub fault : length (b .fault) ≡ slotCount
+  pub cause : length (b .cause) ≡ slotCount
 
 -- what an accepted read stores: each piece at its tag, the burst at its slot; the tags are no longer free
 pub record ReadOpens (b : Bridge) (q : Burst) (c : Bridge) : Type 0 where
@@ -165,11 +167,14 @@ pub record ReadOpens (b : Bridge) (q : Burst) (c : Bridge) : Type 0 where
   pub place :
       (k : ℕ) → k < piecesOf (b .settings .reads) q
       → getD (c .place) (tagOf b k) 0 ≡ placeIn q (pieceOf (b .settings .reads) q k)
-  pub state : getD (c .state) (freeSlot b) 0 ≡ 1
-  pub start : getD (c .start) (freeSlot b) 0 ≡ q .start .0 % 4096
+  pub next :
+      (k : ℕ) → k < piecesOf (b .settings .reads) q
+      → getD (c .next) (tagOf b k) 0 ≡ lowerAddress (pcieOf (b .settings .windows) q (pieceOf (b .settings .reads) q k .first))
+  pub kind : (k : ℕ) → k < piecesOf (b .settings .reads) q → getD (c .kind) (tagOf b k) 0 ≡ memoryRead
+  pub state : getD (c .state) (freeSlot b) 0 ≡ slotOpen
   pub size : getD (c .size) (freeSlot b) 0 ≡ lengthOf q
   pub pieces : getD (c .pieces) (freeSlot b) 0 ≡ piecesOf (b .settings .reads) q
-  pub fault : getD (c .fault) (freeSlot b) 0 ≡ 4096
+  pub fault : getD (c .fault) (freeSlot b) 0 ≡ slotSize
   pub cause : getD (c .cause) (freeSlot b) 0 ≡ 0
 
 abbrev pub AcceptedReadOpens : Type 0

@@ -4,9 +4,9 @@ use mathlib.Core.Path.{_≡_}
 use mathlib.Core.Logic.{_≢_}
 use mathlib.Core.Bool.{Bool, true}
 use lib.ListN.{length, getD}
-use Rattle.bridge.specs.State.{missingOf, placeOf, ownerOf, isOpen}
-use Rattle.bridge.specs.Completions.{storeSize, Held}
-use Rattle.bridge.specs.Ticks.{ticked, linked}
+use Rattle.machine.specs.State.{missingOf, placeOf, ownerOf, isOpen}
+use Rattle.machine.specs.Completions.{storeSize, Held}
+use Rattle.machine.specs.Ticks.{ticked, linked}
 use Rattle.bridge_laws.specs.CompletionLaws.{SlotSame}
 
 -- a refused tick or link event changes nothing: the counter does not step

@@ -7,8 +7,8 @@ use native.Mathlib.Omega.{arith}
 use lib.ListN.{length, getD}
 use lib.Seq.{ext-getD}
 use Rattle.ecam.specs.declared.Registers.{Registers}
-use Rattle.bridge.specs.State.{tagCount, missingOf, registersOf}
-use Rattle.bridge.specs.Completions.{Held}
+use Rattle.machine.specs.State.{tagCount, missingOf, registersOf}
+use Rattle.machine.specs.Completions.{Held}
 use Rattle.trace.specs.Events.{Event, Out, Seen, step, seen}
 use Rattle.trace.specs.Sound.{Sound}
 use Rattle.trace.specs.Claims.{Left, Alike}
@@ -57,6 +57,8 @@ module _ (x y : Held) (p : Left x) (q : Left y) where
         missing = ext-getD 0 (x .bridge .missing) (y .bridge .missing) (a .missing ∙ sym (b .missing)) (λ t h. left-shut x p t ∙ sym (left-shut y q t));
         owner = agree-none (x .bridge .owner) (y .bridge .owner) (a .owner ∙ sym (b .owner));
         place = agree-none (x .bridge .place) (y .bridge .place) (a .place ∙ sym (b .place));
+        next = agree-none (x .bridge .next) (y .bridge .next) (a .next ∙ sym (b .next));
+        kind = agree-none (x .bridge .kind) (y .bridge .kind) (a .kind ∙ sym (b .kind));
         age = λ t h z. no-mark z;
         rooms = a .missing;
         owners = a .owner;
@@ -72,7 +74,6 @@ module _ (x y : Held) (p : Left x) (q : Left y) where
       let inside : (k : ℕ) → k < length (x .bridge .state) → k < 8 = λ k h. omega (arith, h, a .state) in
       record {
         state = ext-getD 0 (x .bridge .state) (y .bridge .state) (a .state ∙ sym (b .state)) (λ k h. left-slot x p k (inside k h) ∙ sym (left-slot y q k (inside k h)));
-        start = agree-none (x .bridge .start) (y .bridge .start) (a .start ∙ sym (b .start));
         size = agree-none (x .bridge .size) (y .bridge .size) (a .size ∙ sym (b .size));
         pieces = agree-none (x .bridge .pieces) (y .bridge .pieces) (a .pieces ∙ sym (b .pieces));
         fault = agree-none (x .bridge .fault) (y .bridge .fault) (a .fault ∙ sym (b .fault));

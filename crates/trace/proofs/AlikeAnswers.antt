@@ -8,7 +8,7 @@ use lib.ListN.{length, getD}
 use lib.Seq.{ext-getD}
 use lib.Dec.{eqb, ltb, leb}
 use borrow.Author.Tests.{eqb-true, ltb-true, le-ltb}
-use Rattle.common.specs.Tests.{firstOf}
+use Rattle.refusals.specs.Table.{refusedBy, readOrder, writeOrder, configOrder}
 use Rattle.tags.specs.Tags.{lowest, available}
 use Rattle.address.specs.declared.Settings.{Settings}
 use Rattle.address.specs.Windows.{foundNumber}
@@ -18,12 +18,12 @@ use Rattle.ecam.specs.Route.{route, numberOf}
 use Rattle.burst.specs.declared.Burst.{Burst}
 use Rattle.burst.specs.Bursts.{burstNumber, dataNumber}
 use Rattle.parts.specs.declared.ConfigSlot.{ConfigSlot}
-use Rattle.bridge.specs.declared.Bridge.{Bridge}
-use Rattle.bridge.specs.State.{tagCount, freeSlot}
-use Rattle.bridge.specs.Memory.{areaSize, windowFor, piecesOf, pieceOf, pieceRequest, packet, readRefusal, claimed, readTo, readSent, readBytes, writeRefusal}
-use Rattle.bridge.specs.Config.{Access, routeOf, goesOut, configNumber, configRefusal, routedRequest, payloadOf, configBytes}
-use Rattle.bridge.specs.Completions.{storeSize, Held, sizeOf}
-use Rattle.bridge.specs.Take.{stateIn, stateOf, takeNumber, takeRefusal, looked}
+use Rattle.machine.specs.Bridge.{Bridge}
+use Rattle.machine.specs.State.{tagCount, slotCount, slotFree, slotOpen, freeSlot}
+use Rattle.machine.specs.Memory.{areaSize, windowFor, piecesOf, pieceOf, pieceRequest, packet, readRefusal, claimed, readTo, readSent, readBytes, writeRefusal}
+use Rattle.machine.specs.Config.{Access, routeOf, goesOut, configNumber, configRefusal, routedRequest, payloadOf, configBytes}
+use Rattle.machine.specs.Completions.{storeSize, Held, sizeOf}
+use Rattle.machine.specs.Take.{stateIn, stateOf, takeNumber, takeRefusal, looked}
 use Rattle.bridge_laws.proofs.TakeLaws.{look-at-slot}
 use Rattle.trace.proofs.Settling.{state-below}
 use Rattle.trace.proofs.AlikeTables.{also, also-here}
@@ -36,37 +36,37 @@ use Rattle.trace.proofs.AlikeStores.{Pair, size-same}
 -- what a read's refusal looks at
 abbrev readTests : Settings → Registers → Bool → ℕ → ℕ → Burst → ℕ → ℕ
 readTests s r busy slot free q room =
-    firstOf
-    ((ltb room areaSize, 8)
-    ∷ (not (eqb (burstNumber q) 0), 3)
-    ∷ (not (eqb (foundNumber (windowFor (s .windows) q)) 0), 2)
-    ∷ (not (r .link), 4)
-    ∷ (busy, 5)
-    ∷ (leb 8 slot, 6)
-    ∷ (ltb (available tagCount free) (piecesOf (s .reads) q), 7)
+    refusedBy readOrder
+    (ltb room areaSize
+    ∷ not (eqb (burstNumber q) 0)
+    ∷ not (eqb (foundNumber (windowFor (s .windows) q)) 0)
+    ∷ not (r .link)
+    ∷ busy
+    ∷ leb slotCount slot
+    ∷ ltb (available tagCount free) (piecesOf (s .reads) q)
     ∷ [])
 
 abbrev busyIn : ConfigSlot → Bool
-busyIn c = eqb (c .state) 1 && not (c .write)
+busyIn c = eqb (c .state) slotOpen && not (c .write)
 
 abbrev writeTests : Settings → Registers → Burst → ℕ → ℕ → ℕ
 writeTests s r q len room =
-    firstOf
-    ((ltb room areaSize, 8)
-    ∷ (not (eqb (burstNumber q) 0), 3)
-    ∷ (not (eqb (foundNumber (windowFor (s .windows) q)) 0), 2)
-    ∷ (not (eqb (dataNumber q len) 0), 15)
-    ∷ (not (r .link), 4)
+    refusedBy writeOrder
+    (ltb room areaSize
+    ∷ not (eqb (burstNumber q) 0)
+    ∷ not (eqb (foundNumber (windowFor (s .windows) q)) 0)
+    ∷ not (eqb (dataNumber q len) 0)
+    ∷ not (r .link)
     ∷ [])
 
 abbrev configTests : ℕ → Registers → ℕ → Route → ℕ → ℕ
 configTests state r free x room =
-    firstOf
-    ((ltb room areaSize, 8)
-    ∷ (not (eqb state 0), 5)
-    ∷ (not (eqb (numberOf x) 0), numberOf x)
-    ∷ (goesOut x && not (r .link), 4)
-    ∷ (goesOut x && eqb (available tagCount free) 0, 7)
+    refusedBy (configOrder (numberOf x))
+    (ltb room areaSize
+    ∷ not (eqb state slotFree)
+    ∷ not (eqb (numberOf x) 0)
+    ∷ (goesOut x && not (r .link))
+    ∷ (goesOut x && eqb (available tagCount free) 0)
     ∷ [])
 
 module _ (o l : ℕ → Bool) (u : Bool) (x y : Bridge) (p : Twin o l u x y) where

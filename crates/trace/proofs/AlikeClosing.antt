@@ -9,38 +9,42 @@ use lib.ListN.{length, getD, set, length-set}
 use lib.Seq.{paste, getD-set-other, getD-set-same}
 use lib.Dec.{ltb, leb}
 use Rattle.parts.specs.declared.ConfigSlot.{ConfigSlot}
-use Rattle.bridge.specs.declared.Bridge.{Bridge}
+use Rattle.machine.specs.Bridge.{Bridge}
 use Rattle.verdict.specs.declared.Cause.{Cause}
 use Rattle.verdict.specs.declared.Cause.the-variants.{Poison}
 use Rattle.verdict.specs.declared.Verdict.{Verdict}
 use Rattle.verdict.specs.declared.Verdict.the-variants.{Unexpected, Good, Poisoned, Failed}
-use Rattle.bridge.specs.State.{withConfig, coreIn, slotsIn, missingOf, placeOf, counted, shut, freed}
-use Rattle.bridge.specs.Verdict.{causeResponse, causeBit}
-use Rattle.bridge.specs.Completions.{Held, held, faulted, failed, finished, pieceClosed, closed, advanced, usefulBytes, memoryCompleted, configAnswer, configCompleted}
+use Rattle.machine.specs.State.{withConfig, coreIn, setState, setPieces, setFault, setCause, missingOf, placeOf, counted, shut, freed}
+use Rattle.machine.specs.Verdict.{causeResponse, causeBit}
+use Rattle.machine.specs.Completions.{Held, held, faulted, failed, finished, pieceClosed, closed, advanced, usefulBytes, memoryCompleted, configAnswer, configCompleted}
 use Rattle.trace.proofs.Touch.{cause-not-okay}
 use Rattle.trace.proofs.AlikeTables.{no-mark, agree-set}
-use Rattle.trace.proofs.AlikeTwin.{Twin, core-config, either-twin, core-twin, slots-twin, raise-twin, shut-twin, freed-twin, counted-twin}
+use Rattle.trace.proofs.AlikeTwin.{Twin, core-config, either-twin, core-twin, raise-twin, shut-twin, freed-twin, counted-twin}
 
 module _ (o l : ℕ → Bool) (u : Bool) where
   -- ---- a slot in use
 
-  fault-twin : (x y : Bridge) (k place code : ℕ) → l k ≡ true → code ≢ 0 → Twin o l u x y → Twin o l u (slotsIn (x .state) (x .start) (x .size) (x .pieces) (set (x .fault) k place) (set (x .cause) k code) x) (slotsIn (y .state) (y .start) (y .size) (y .pieces) (set (y .fault) k place) (set (y .cause) k code) y)
+  fault-twin : (x y : Bridge) (k place code : ℕ) → l k ≡ true → code ≢ 0 → Twin o l u x y → Twin o l u (setFault k place (setCause k code x)) (setFault k place (setCause k code y))
   fault-twin x y k place code e n p =
-      slots-twin o l u x y (x .state) (x .start) (x .size) (x .pieces) (set (x .fault) k place) (set (x .cause) k code) (y .state) (y .start) (y .size) (y .pieces) (set (y .fault) k place) (set (y .cause) k code)
-      (record {
-        state = p .slots .state;
-        start = p .slots .start;
-        size = p .slots .size;
-        pieces = p .slots .pieces;
-        fault = agree-set l (x .fault) (y .fault) k place place (p .slots .fault) (λ z. refl);
-        cause = agree-set l (x .cause) (y .cause) k code code (p .slots .cause) (λ z. refl);
-        used = p .slots .used;
-        below = p .slots .below;
-        faults = length-set (x .fault) k place ∙ p .slots .faults;
-        causes = length-set (x .cause) k code ∙ p .slots .causes;
-        marked = λ j z. go j z (ℕ-discrete j k);
-      })
-      p
+      record {
+        settings = p .settings;
+        core = p .core;
+        tags = p .tags;
+        slots = record {
+          state = p .slots .state;
+          size = p .slots .size;
+          pieces = p .slots .pieces;
+          fault = agree-set l (x .fault) (y .fault) k place place (p .slots .fault) (λ z. refl);
+          cause = agree-set l (x .cause) (y .cause) k code code (p .slots .cause) (λ z. refl);
+          used = p .slots .used;
+          below = p .slots .below;
+          faults = length-set (x .fault) k place ∙ p .slots .faults;
+          causes = length-set (x .cause) k code ∙ p .slots .causes;
+          marked = λ j z. go j z (ℕ-discrete j k);
+        };
+        reads = p .reads;
+        words = p .words;
+      }
     where
       small : k < length (x .cause)
       small = let b : k < 8 = p .slots .below k e in rw (p .slots .causes) b
@@ -54,8 +58,8 @@ module _ (o l : ℕ → Bool) (u : Bool) where
   faulted-twin x y k place code e n p =
       rw (← (p .slots .fault .same k e))
       (either-twin o l u (ltb place (getD (x .fault) k 0))
-      (slotsIn (x .state) (x .start) (x .size) (x .pieces) (set (x .fault) k place) (set (x .cause) k code) x) x
-      (slotsIn (y .state) (y .start) (y .size) (y .pieces) (set (y .fault) k place) (set (y .cause) k code) y) y
+      (setFault k place (setCause k code x)) x
+      (setFault k place (setCause k code y)) y
       (fault-twin x y k place code e n p) p)
 
   pub failed-twin : (x y : Bridge) (k place : ℕ) (why : Cause) → l k ≡ true → Twin o l u x y → Twin o l u (failed k place why x) (failed k place why y)
@@ -65,45 +69,53 @@ module _ (o l : ℕ → Bool) (u : Bool) where
       (faulted-twin x y k place (causeResponse why) e (cause-not-okay why) p)
 
   -- states and counts of pieces put anew
-  pub state-twin : (x y : Bridge) (k v a b : ℕ) → l k ≡ true → a ≡ b → Twin o l u x y → Twin o l u (slotsIn (set (x .state) k v) (x .start) (x .size) (set (x .pieces) k a) (x .fault) (x .cause) x) (slotsIn (set (y .state) k v) (y .start) (y .size) (set (y .pieces) k b) (y .fault) (y .cause) y)
+  pub state-twin : (x y : Bridge) (k v a b : ℕ) → l k ≡ true → a ≡ b → Twin o l u x y → Twin o l u (setState k v (setPieces k a x)) (setState k v (setPieces k b y))
   state-twin x y k v a b e i p =
-      slots-twin o l u x y (set (x .state) k v) (x .start) (x .size) (set (x .pieces) k a) (x .fault) (x .cause) (set (y .state) k v) (y .start) (y .size) (set (y .pieces) k b) (y .fault) (y .cause)
-      (record {
-        state = ap (λ (s : List ℕ). set s k v) (p .slots .state);
-        start = p .slots .start;
-        size = p .slots .size;
-        pieces = agree-set l (x .pieces) (y .pieces) k a b (p .slots .pieces) (λ z. i);
-        fault = p .slots .fault;
-        cause = p .slots .cause;
-        used = λ j z. go j z (ℕ-discrete j k);
-        below = p .slots .below;
-        faults = p .slots .faults;
-        causes = p .slots .causes;
-        marked = p .slots .marked;
-      })
-      p
+      record {
+        settings = p .settings;
+        core = p .core;
+        tags = p .tags;
+        slots = record {
+          state = ap (λ (s : List ℕ). set s k v) (p .slots .state);
+          size = p .slots .size;
+          pieces = agree-set l (x .pieces) (y .pieces) k a b (p .slots .pieces) (λ z. i);
+          fault = p .slots .fault;
+          cause = p .slots .cause;
+          used = λ j z. go j z (ℕ-discrete j k);
+          below = p .slots .below;
+          faults = p .slots .faults;
+          causes = p .slots .causes;
+          marked = p .slots .marked;
+        };
+        reads = p .reads;
+        words = p .words;
+      }
     where
       go : (j : ℕ) → getD (set (x .state) k v) j 0 ≢ 0 → Dec (j ≡ k) → l j ≡ true
       go j z (yes q) = subst (λ (w : ℕ). l w ≡ true) (sym q) e
       go j z (no q) = p .slots .used j (λ w. z (getD-set-other (x .state) k j v 0 q ∙ w))
 
-  less-twin : (x y : Bridge) (k a b : ℕ) → a ≡ b → Twin o l u x y → Twin o l u (slotsIn (x .state) (x .start) (x .size) (set (x .pieces) k a) (x .fault) (x .cause) x) (slotsIn (y .state) (y .start) (y .size) (set (y .pieces) k b) (y .fault) (y .cause) y)
+  less-twin : (x y : Bridge) (k a b : ℕ) → a ≡ b → Twin o l u x y → Twin o l u (setPieces k a x) (setPieces k b y)
   less-twin x y k a b i p =
-      slots-twin o l u x y (x .state) (x .start) (x .size) (set (x .pieces) k a) (x .fault) (x .cause) (y .state) (y .start) (y .size) (set (y .pieces) k b) (y .fault) (y .cause)
-      (record {
-        state = p .slots .state;
-        start = p .slots .start;
-        size = p .slots .size;
-        pieces = agree-set l (x .pieces) (y .pieces) k a b (p .slots .pieces) (λ z. i);
-        fault = p .slots .fault;
-        cause = p .slots .cause;
-        used = p .slots .used;
-        below = p .slots .below;
-        faults = p .slots .faults;
-        causes = p .slots .causes;
-        marked = p .slots .marked;
-      })
-      p
+      record {
+        settings = p .settings;
+        core = p .core;
+        tags = p .tags;
+        slots = record {
+          state = p .slots .state;
+          size = p .slots .size;
+          pieces = agree-set l (x .pieces) (y .pieces) k a b (p .slots .pieces) (λ z. i);
+          fault = p .slots .fault;
+          cause = p .slots .cause;
+          used = p .slots .used;
+          below = p .slots .below;
+          faults = p .slots .faults;
+          causes = p .slots .causes;
+          marked = p .slots .marked;
+        };
+        reads = p .reads;
+        words = p .words;
+      }
 
   -- ---- a piece closed
 
@@ -118,9 +130,9 @@ module _ (o l : ℕ → Bool) (u : Bool) where
       let y = g .bridge in
       rw (← (p .slots .pieces .same k e))
       (either-held (leb (getD (x .pieces) k 0) 1) (finished k h)
-      (held (slotsIn (x .state) (x .start) (x .size) (set (x .pieces) k (getD (x .pieces) k 0 - 1)) (x .fault) (x .cause) x) (h .store))
+      (held (setPieces k (getD (x .pieces) k 0 - 1) x) (h .store))
       (finished k g)
-      (held (slotsIn (y .state) (y .start) (y .size) (set (y .pieces) k (getD (x .pieces) k 0 - 1)) (y .fault) (y .cause) y) (g .store))
+      (held (setPieces k (getD (x .pieces) k 0 - 1) y) (g .store))
       (state-twin x y k 2 0 0 e refl p)
       (less-twin x y k (getD (x .pieces) k 0 - 1) (getD (x .pieces) k 0 - 1) refl p))
 

@@ -13,16 +13,15 @@ use Rattle.tlp.specs.declared.completion.Completion.{Completion}
 use Rattle.tlp.specs.declared.completion.CompletionRead.{CompletionRead}
 use Rattle.tlp.specs.declared.completion.CompletionRead.the-variants.{Header, Malformed}
 use Rattle.address.specs.declared.Settings.{Settings}
-use Rattle.parts.specs.declared.ConfigSlot.{ConfigSlot}
-use Rattle.bridge.specs.declared.Bridge.{Bridge}
+use Rattle.machine.specs.Bridge.{Bridge}
 use Rattle.verdict.specs.declared.Verdict.{Verdict}
 use Rattle.verdict.specs.declared.Verdict.the-variants.{Unexpected, Good, Poisoned, Failed}
-use Rattle.bridge.specs.State.{tagCount, raisedCore, raise, missingOf, placeOf, ownerOf, isOpen, shut, freed, refusalChange}
-use Rattle.bridge.specs.Verdict.{memoryVerdict, configVerdict}
-use Rattle.bridge.specs.Completions.{storeSize, Held, held, memoryCompleted, configCompleted, nextAddress, verdictOf, completionOf, isUnexpected, readRefused, completeRefusal, expected, completed}
-use Rattle.bridge.specs.Expected.{Fits, Whole}
+use Rattle.machine.specs.State.{tagCount, raisedCore, raise, missingOf, ownerOf, placeOf, isOpen, Open, isWrite, shut, freed, refusalChange}
+use Rattle.machine.specs.Verdict.{memoryVerdict, configVerdict}
+use Rattle.machine.specs.Completions.{storeSize, Held, held, memoryCompleted, configCompleted, nextAddress, verdictOf, completionOf, isUnexpected, readRefused, completeRefusal, expected, completed}
+use Rattle.machine.specs.contracts.Expected.{Fits, Whole}
 use Rattle.bridge_laws.specs.CompletionLaws.{Kept}
-use Rattle.bridge.proofs.Judging.{verdict-fits, read-whole, open-room}
+use Rattle.machine.proofs.Judging.{verdict-fits, read-whole, open-room}
 use Rattle.bridge_laws.proofs.Keeping.{verdict-open, verdict-memory, own-slot-only, malformed-keeps}
 use Rattle.trace.specs.Sound.{named, openIn, Sound}
 use Rattle.trace.proofs.Counts.{is-named, open-counted}
@@ -39,27 +38,19 @@ abbrev judged : Bridge → Completion → Bool → Bool → Verdict
 judged b c ours here =
     cond (ours && here)
     (cond (ltb (ownerOf b (c .tag)) 8) (memoryVerdict c (missingOf b (c .tag)) (nextAddress b (c .tag)))
-    (configVerdict c (b .core .config .write)))
+    (configVerdict c (isWrite b (c .tag))))
     Unexpected
 
 module _ (o l : ℕ → Bool) (u : Bool) (x y : Bridge) (p : Twin o l u x y) where
-  verdict-of : (c : Completion) → missingOf x (c .tag) ≢ 0 → judged x c true true ≡ judged y c true true
+  verdict-of : (c : Completion) → Open x (c .tag) → judged x c true true ≡ judged y c true true
   verdict-of c n =
-      rw (← (p .tags .owner .same t i), ← (p .tags .place .same t i), ← (ap (λ (m : List ℕ). getD m t 0) (p .tags .missing)))
-      (go (ltb (ownerOf x t) 8) refl)
+      rw (← (p .tags .owner .same t i), ← (p .tags .next .same t i), ← (p .tags .kind .same t i), ← (ap (λ (m : List ℕ). getD m t 0) (p .tags .missing)))
     where
       t : ℕ
       t = c .tag
 
-      b : t < tagCount
-      b = open-below o l u x y t p n
-
       i : o t ≡ true
       i = open-used o l u x y t p n
-
-      go : (z : Bool) → ltb (ownerOf x t) 8 ≡ z → cond z (memoryVerdict c (missingOf x t) (getD (x .start) (ownerOf x t) 0 + placeOf x t)) (configVerdict c (x .core .config .write)) ≡ cond z (memoryVerdict c (missingOf x t) (getD (y .start) (ownerOf x t) 0 + placeOf x t)) (configVerdict c (y .core .config .write))
-      go true z = ap (λ (a : ℕ). memoryVerdict c (missingOf x t) (a + placeOf x t)) (p .slots .start .same (ownerOf x t) (p .reads t b i (ltb-true _ _ z)))
-      go false z = ap (λ (s : ConfigSlot). configVerdict c (s .write)) (p .core .config (p .words t b i (ltb-false _ _ z)))
 
   judged-same : (c : Completion) (ours here : Bool) → isOpen (missingOf x (c .tag)) (placeOf x (c .tag)) ≡ here → judged x c ours here ≡ judged y c ours here
   judged-same c true true e = verdict-of c (open-not (missingOf x (c .tag)) (placeOf x (c .tag)) e)
@@ -147,7 +138,7 @@ module _ (h g : Held) (s : List ℕ) (c : Completion) (e : completionOf s ≡ He
     opens : isOpen (missingOf (h .bridge) (c .tag)) (placeOf (h .bridge) (c .tag)) ≡ true
     opens = verdict-open (h .bridge) c z
 
-    some : missingOf (h .bridge) (c .tag) ≢ 0
+    some : Open (h .bridge) (c .tag)
     some = open-not (missingOf (h .bridge) (c .tag)) (placeOf (h .bridge) (c .tag)) opens
 
     below : c .tag < tagCount
@@ -191,7 +182,7 @@ module _ (h g : Held) (s : List ℕ) (c : Completion) (e : completionOf s ≡ He
           let n = open-counted (h .bridge) k (c .tag) tagCount names below in
           sym (state-below (h .bridge) k small) ∙ some-open (h .bridge) k (omega (arith, n, v .count k))
 
-      alone : getD (h .bridge .pieces) (ownerOf (h .bridge) (c .tag)) 0 ≤ 1 → (a : ℕ) → missingOf (h .bridge) a ≢ 0 → ownerOf (h .bridge) a ≡ ownerOf (h .bridge) (c .tag) → a ≡ c .tag
+      alone : getD (h .bridge .pieces) (ownerOf (h .bridge) (c .tag)) 0 ≤ 1 → (a : ℕ) → Open (h .bridge) a → ownerOf (h .bridge) a ≡ ownerOf (h .bridge) (c .tag) → a ≡ c .tag
       alone few a m q = go (ℕ-discrete a (c .tag))
         where
           k : ℕ

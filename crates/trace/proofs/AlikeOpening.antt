@@ -1,5 +1,5 @@
 -- Two bridges alike stay alike under what opens and frees: a read, a configuration access, a release.
-use Prim.Native.Nat.{ℕ, zero, suc, _%_, _^_, _≤_, _<_}
+use Prim.Native.Nat.{ℕ, zero, suc, _^_, _≤_, _<_}
 use mathlib.Core.Path.{_≡_, refl, sym, ap, _∙_, subst}
 use mathlib.Core.Logic.{_⊎_, inl, _≢_}
 use mathlib.Core.List.{List}
@@ -17,30 +17,34 @@ use Rattle.ecam.specs.Registers.{localRead, localWrite}
 use Rattle.burst.specs.declared.Burst.{Burst}
 use Rattle.burst.specs.Bursts.{lengthOf}
 use Rattle.parts.specs.declared.ConfigSlot.{ConfigSlot}
-use Rattle.bridge.specs.declared.Bridge.{Bridge}
-use Rattle.bridge.specs.State.{tagCount, withFree, withConfig, coreIn, tagsIn, slotsIn, ownerOf, opened, freeSlot, freeSlotFrom, freeConfig, okay}
-use Rattle.bridge.specs.Memory.{piecesOf, pieceOf, placeIn, claimed, readTo, readBridge}
-use Rattle.bridge.specs.Config.{Access, localCore, localBridge, routedBridge}
-use Rattle.bridge.specs.Take.{slotFreed}
-use Rattle.bridge.specs.Ticks.{ageOf}
+use Rattle.parts.specs.declared.Pending.{Pending}
+use Rattle.machine.specs.Bridge.{Bridge}
+use Rattle.machine.specs.State.{tagCount, slotCount, slotSize, slotFree, slotOpen, withFree, withConfig, freeConfig, openConfig, doneConfig, coreIn, setState, setSize, setPieces, setFault, setCause, ownerOf, waiting, opened, freeSlot, freeSlotFrom, okay}
+use Rattle.machine.specs.Memory.{piecesOf, pieceOf, claimed, readTo, readBridge, piecePending, waitingFor}
+use Rattle.machine.specs.Config.{Access, localCore, localBridge, routedBridge, wordPending, configClaimed}
+use Rattle.machine.specs.Take.{slotFreed}
+use Rattle.machine.specs.Ticks.{ageOf}
 use Rattle.trace.proofs.AlikeTables.{zero-kept, also, also-here, also-other, also-kept, agree-also, age-new}
-use Rattle.trace.proofs.AlikeTwin.{Twin, core-config, core-registers, core-free, slots-twin}
+use Rattle.trace.proofs.AlikeTwin.{Twin, core-config, core-registers, core-free}
 
 -- ---- a tag
 
 -- tag t is opened for a slot in use
 module _ (o l : ℕ → Bool) (u : Bool) where
-  opened-at : (x y : Bridge) (t v w slot place n : ℕ) → v ≡ w → (slot < 8 → l slot ≡ true) → (8 ≤ slot → u ≡ true) → Twin o l u x y → Twin (also o t) l u (coreIn (withFree v (x .core)) (tagsIn (set (x .missing) t n) (set (x .sent) t (x .core .ticks)) (set (x .owner) t slot) (set (x .place) t place) x)) (coreIn (withFree w (y .core)) (tagsIn (set (y .missing) t n) (set (y .sent) t (y .core .ticks)) (set (y .owner) t slot) (set (y .place) t place) y))
-  opened-at x y t v w slot place n e i j p = record {
+  opened-at : (x y : Bridge) (t v w : ℕ) (r : Pending) → v ≡ w → (r .slot < slotCount → l (r .slot) ≡ true) → (slotCount ≤ r .slot → u ≡ true) → Twin o l u x y
+      → Twin (also o t) l u (coreIn (withFree v (x .core)) (waiting t r x)) (coreIn (withFree w (y .core)) (waiting t r y))
+  opened-at x y t v w r e i j p = record {
     settings = p .settings;
     core = core-free u v w (x .core) (y .core) e (p .core);
     tags = record {
-      missing = ap (λ (m : List ℕ). set m t n) (p .tags .missing);
-      owner = agree-also o (x .owner) (y .owner) t slot slot (p .tags .owner) refl;
-      place = agree-also o (x .place) (y .place) t place place (p .tags .place) refl;
+      missing = ap (λ (m : List ℕ). set m t (r .missing)) (p .tags .missing);
+      owner = agree-also o (x .owner) (y .owner) t (r .slot) (r .slot) (p .tags .owner) refl;
+      place = agree-also o (x .place) (y .place) t (r .place) (r .place) (p .tags .place) refl;
+      next = agree-also o (x .next) (y .next) t (r .next) (r .next) (p .tags .next) refl;
+      kind = agree-also o (x .kind) (y .kind) t (r .kind) (r .kind) (p .tags .kind) refl;
       age = λ s h z. age s h z (ℕ-discrete s t);
-      rooms = length-set (x .missing) t n ∙ p .tags .rooms;
-      owners = length-set (x .owner) t slot ∙ p .tags .owners;
+      rooms = length-set (x .missing) t (r .missing) ∙ p .tags .rooms;
+      owners = length-set (x .owner) t (r .slot) ∙ p .tags .owners;
       early = length-set (x .sent) t (x .core .ticks) ∙ p .tags .early;
       late = length-set (y .sent) t (y .core .ticks) ∙ p .tags .late;
       used = λ s z. used s z (ℕ-discrete s t);
@@ -51,7 +55,7 @@ module _ (o l : ℕ → Bool) (u : Bool) where
   }
     where
       new : (a : List ℕ) (n : ℕ) → length a ≡ tagCount → t < tagCount → n < 2 ^ 32 → ageOf n (getD (set a t n) t 0) ≡ 0
-      new a n r h f = let b : t < length a = rw r h in rw (getD-set-same a t n 0 b) (age-new n f)
+      new a n k h f = let b : t < length a = rw k h in rw (getD-set-same a t n 0 b) (age-new n f)
 
       age : (s : ℕ) → s < tagCount → also o t s ≡ true → Dec (s ≡ t) → ageOf (x .core .ticks) (getD (set (x .sent) t (x .core .ticks)) s 0) ≡ ageOf (y .core .ticks) (getD (set (y .sent) t (y .core .ticks)) s 0)
       age s h z (yes q) =
@@ -61,38 +65,37 @@ module _ (o l : ℕ → Bool) (u : Bool) where
           rw (getD-set-other (x .sent) t s (x .core .ticks) 0 q, getD-set-other (y .sent) t s (y .core .ticks) 0 q)
           (p .tags .age s h (also-other o t s q z))
 
-      used : (s : ℕ) → getD (set (x .missing) t n) s 0 ≢ 0 → Dec (s ≡ t) → also o t s ≡ true
+      used : (s : ℕ) → getD (set (x .missing) t (r .missing)) s 0 ≢ 0 → Dec (s ≡ t) → also o t s ≡ true
       used s z (yes q) = rw q (also-here o t)
-      used s z (no q) = also-kept o t s (p .tags .used s (λ i. z (getD-set-other (x .missing) t s n 0 q ∙ i)))
+      used s z (no q) = also-kept o t s (p .tags .used s (λ i. z (getD-set-other (x .missing) t s (r .missing) 0 q ∙ i)))
 
-      reads : (s : ℕ) → s < tagCount → also o t s ≡ true → Dec (s ≡ t) → getD (set (x .owner) t slot) s 0 < 8 → l (getD (set (x .owner) t slot) s 0) ≡ true
+      reads : (s : ℕ) → s < tagCount → also o t s ≡ true → Dec (s ≡ t) → getD (set (x .owner) t (r .slot)) s 0 < 8 → l (getD (set (x .owner) t (r .slot)) s 0) ≡ true
       reads s h z (yes q) =
           let b : t < length (x .owner) = rw (q, ← (p .tags .owners)) at h in
-          rw (q, getD-set-same (x .owner) t slot 0 b) i
-      reads s h z (no q) = rw (getD-set-other (x .owner) t s slot 0 q) (p .reads s h (also-other o t s q z))
+          rw (q, getD-set-same (x .owner) t (r .slot) 0 b) i
+      reads s h z (no q) = rw (getD-set-other (x .owner) t s (r .slot) 0 q) (p .reads s h (also-other o t s q z))
 
-      words : (s : ℕ) → s < tagCount → also o t s ≡ true → Dec (s ≡ t) → 8 ≤ getD (set (x .owner) t slot) s 0 → u ≡ true
+      words : (s : ℕ) → s < tagCount → also o t s ≡ true → Dec (s ≡ t) → 8 ≤ getD (set (x .owner) t (r .slot)) s 0 → u ≡ true
       words s h z (yes q) =
           let b : t < length (x .owner) = rw (q, ← (p .tags .owners)) at h in
-          rw (q, getD-set-same (x .owner) t slot 0 b) j
-      words s h z (no q) = rw (getD-set-other (x .owner) t s slot 0 q) (p .words s h (also-other o t s q z))
+          rw (q, getD-set-same (x .owner) t (r .slot) 0 b) j
+      words s h z (no q) = rw (getD-set-other (x .owner) t s (r .slot) 0 q) (p .words s h (also-other o t s q z))
 
-  pub opened-twin : (x y : Bridge) (slot place n : ℕ) → (slot < 8 → l slot ≡ true) → (8 ≤ slot → u ≡ true) → Twin o l u x y → Twin (also o (lowest tagCount (x .core .free))) l u (opened slot place n x) (opened slot place n y)
+  pub opened-twin : (x y : Bridge) (r : Pending) → (r .slot < slotCount → l (r .slot) ≡ true) → (slotCount ≤ r .slot → u ≡ true) → Twin o l u x y → Twin (also o (lowest tagCount (x .core .free))) l u (opened r x) (opened r y)
   unfolding opened
-  opened-twin x y slot place n i j p =
+  opened-twin x y r i j p =
       rw (← (p .core .free))
-      (opened-at x y (lowest tagCount (x .core .free)) (clearBit (x .core .free) (lowest tagCount (x .core .free))) (clearBit (x .core .free) (lowest tagCount (x .core .free))) slot place n refl i j p)
+      (opened-at x y (lowest tagCount (x .core .free)) (clearBit (x .core .free) (lowest tagCount (x .core .free))) (clearBit (x .core .free) (lowest tagCount (x .core .free))) r refl i j p)
 
   -- ---- a slot
 
-  claimed-at : (x y : Bridge) (k a n q : ℕ) → k < 8 → Twin o l u x y → Twin o (also l k) u (slotsIn (set (x .state) k 1) (set (x .start) k a) (set (x .size) k n) (set (x .pieces) k q) (set (x .fault) k 4096) (set (x .cause) k 0) x) (slotsIn (set (y .state) k 1) (set (y .start) k a) (set (y .size) k n) (set (y .pieces) k q) (set (y .fault) k 4096) (set (y .cause) k 0) y)
-  claimed-at x y k a n q h p = record {
+  claimed-at : (x y : Bridge) (k n q : ℕ) → k < 8 → Twin o l u x y → Twin o (also l k) u (waitingFor k n q x) (waitingFor k n q y)
+  claimed-at x y k n q h p = record {
     settings = p .settings;
     core = p .core;
     tags = p .tags;
     slots = record {
       state = ap (λ (s : List ℕ). set s k 1) (p .slots .state);
-      start = agree-also l (x .start) (y .start) k a a (p .slots .start) refl;
       size = agree-also l (x .size) (y .size) k n n (p .slots .size) refl;
       pieces = agree-also l (x .pieces) (y .pieces) k q q (p .slots .pieces) refl;
       fault = agree-also l (x .fault) (y .fault) k 4096 4096 (p .slots .fault) refl;
@@ -122,9 +125,9 @@ module _ (o l : ℕ → Bool) (u : Bool) where
   pub claimed-twin : (x y : Bridge) (k : ℕ) (q : Burst) → k < 8 → Twin o l u x y → Twin o (also l k) u (claimed k q x) (claimed k q y)
   unfolding claimed
   claimed-twin x y k q h p =
-      subst (λ (n : ℕ). Twin o (also l k) u (claimed k q x) (slotsIn (set (y .state) k 1) (set (y .start) k (q .start .0 % 4096)) (set (y .size) k (lengthOf q)) (set (y .pieces) k n) (set (y .fault) k 4096) (set (y .cause) k 0) y))
+      subst (λ (n : ℕ). Twin o (also l k) u (claimed k q x) (waitingFor k (lengthOf q) n y))
       (ap (λ (s : Settings). piecesOf (s .reads) q) (p .settings))
-      (claimed-at x y k (q .start .0 % 4096) (lengthOf q) (piecesOf (x .settings .reads) q) h p)
+      (claimed-at x y k (lengthOf q) (piecesOf (x .settings .reads) q) h p)
 
 -- ---- a read
 
@@ -137,9 +140,9 @@ pub read-to-twin : (o l : ℕ → Bool) (u : Bool) (x y : Bridge) (slot : ℕ) (
 unfolding readTo
 read-to-twin o l u x y slot q zero h e p = p
 read-to-twin o l u x y slot q (suc k) h e p =
-    subst (λ (n : ℕ). Twin (takenTo o slot q x (suc k)) l u (readTo slot q x (suc k)) (opened slot (placeIn q (pieceOf n q k)) (pieceOf n q k .length) (readTo slot q y k)))
-    (ap (λ (s : Settings). s .reads) (p .settings))
-    (opened-twin (takenTo o slot q x k) l u (readTo slot q x k) (readTo slot q y k) slot (placeIn q (pieceOf (x .settings .reads) q k)) (pieceOf (x .settings .reads) q k .length) (λ z. e) (λ z. absurd (omega arith))
+    subst (λ (s : Settings). Twin (takenTo o slot q x (suc k)) l u (readTo slot q x (suc k)) (opened (piecePending slot s q (pieceOf (s .reads) q k)) (readTo slot q y k)))
+    (p .settings)
+    (opened-twin (takenTo o slot q x k) l u (readTo slot q x k) (readTo slot q y k) (piecePending slot (x .settings) q (pieceOf (x .settings .reads) q k)) (λ z. e) (λ z. absurd (omega arith))
     (read-to-twin o l u x y slot q k h e p))
 
 pub slot-same : (o l : ℕ → Bool) (u : Bool) (x y : Bridge) → Twin o l u x y → freeSlot x ≡ freeSlot y
@@ -169,14 +172,14 @@ anew-twin o l u x y a b e p =
 pub routed-twin : (o l : ℕ → Bool) (u : Bool) (x y : Bridge) (a : Access) → Twin o l u x y → Twin (also o (lowest tagCount (x .core .free))) l true (routedBridge x a) (routedBridge y a)
 unfolding routedBridge
 routed-twin o l u x y a p =
-    let c : ConfigSlot = record { state = 1; write = a .write; response = okay; word = 0 } in
-    opened-twin o l true (coreIn (withConfig c (x .core)) x) (coreIn (withConfig c (y .core)) y) 8 0 4 (λ z. absurd (omega arith)) (λ z. refl)
+    let c = openConfig (a .write) in
+    opened-twin o l true (configClaimed a x) (configClaimed a y) (wordPending (a .write)) (λ z. absurd (omega arith)) (λ z. refl)
     (anew-twin o l u x y c c refl p)
 
 pub local-twin : (o l : ℕ → Bool) (u : Bool) (x y : Bridge) (a : Access) (w : ℕ) → Twin o l u x y → Twin o l true (localBridge x a w) (localBridge y a w)
 unfolding localCore
 local-twin o l u x y a w p =
-    let f : Registers → ConfigSlot = λ (r : Registers). record { state = 2; write = a .write; response = okay; word = cond (a .write) 0 (localRead r w) } in
+    let f : Registers → ConfigSlot = λ (r : Registers). doneConfig (a .write) okay (cond (a .write) 0 (localRead r w)) in
     let g : Registers → Registers = λ (r : Registers). cond (a .write) (localWrite r w (a .strobes) (a .word)) r in
     let c = withConfig (f (x .core .registers)) (x .core) in
     let d = withConfig (f (y .core .registers)) (y .core) in
@@ -191,28 +194,32 @@ local-twin o l u x y a w p =
 
 -- ---- a release
 
-free-state : (o l : ℕ → Bool) (u : Bool) (x y : Bridge) (k : ℕ) → Twin o l u x y → Twin o l u (slotsIn (set (x .state) k 0) (x .start) (x .size) (x .pieces) (x .fault) (x .cause) x) (slotsIn (set (y .state) k 0) (y .start) (y .size) (y .pieces) (y .fault) (y .cause) y)
+free-state : (o l : ℕ → Bool) (u : Bool) (x y : Bridge) (k : ℕ) → Twin o l u x y → Twin o l u (setState k slotFree x) (setState k slotFree y)
 free-state o l u x y k p =
-    slots-twin o l u x y (set (x .state) k 0) (x .start) (x .size) (x .pieces) (x .fault) (x .cause) (set (y .state) k 0) (y .start) (y .size) (y .pieces) (y .fault) (y .cause)
-    (record {
-      state = ap (λ (s : List ℕ). set s k 0) (p .slots .state);
-      start = p .slots .start;
-      size = p .slots .size;
-      pieces = p .slots .pieces;
-      fault = p .slots .fault;
-      cause = p .slots .cause;
-      used = λ j z. p .slots .used j (λ e. z (zero-kept (x .state) k j e));
-      below = p .slots .below;
-      faults = p .slots .faults;
-      causes = p .slots .causes;
-      marked = p .slots .marked;
-    })
-    p
+    record {
+      settings = p .settings;
+      core = p .core;
+      tags = p .tags;
+      slots = record {
+        state = ap (λ (s : List ℕ). set s k 0) (p .slots .state);
+        size = p .slots .size;
+        pieces = p .slots .pieces;
+        fault = p .slots .fault;
+        cause = p .slots .cause;
+        used = λ j z. p .slots .used j (λ e. z (zero-kept (x .state) k j e));
+        below = p .slots .below;
+        faults = p .slots .faults;
+        causes = p .slots .causes;
+        marked = p .slots .marked;
+      };
+      reads = p .reads;
+      words = p .words;
+    }
 
 pub freed-slot-twin : (o l : ℕ → Bool) (u : Bool) (x y : Bridge) (k : ℕ) → Twin o l u x y → Twin o l (cond (ltb k 8) u true) (slotFreed k x) (slotFreed k y)
 unfolding slotFreed
 freed-slot-twin o l u x y k p = go (ltb k 8)
   where
-    go : (z : Bool) → Twin o l (cond z u true) (cond z (slotsIn (set (x .state) k 0) (x .start) (x .size) (x .pieces) (x .fault) (x .cause) x) (coreIn (withConfig freeConfig (x .core)) x)) (cond z (slotsIn (set (y .state) k 0) (y .start) (y .size) (y .pieces) (y .fault) (y .cause) y) (coreIn (withConfig freeConfig (y .core)) y))
+    go : (z : Bool) → Twin o l (cond z u true) (cond z (setState k slotFree x) (coreIn (withConfig freeConfig (x .core)) x)) (cond z (setState k slotFree y) (coreIn (withConfig freeConfig (y .core)) y))
     go true = free-state o l u x y k p
     go false = anew-twin o l u x y freeConfig freeConfig refl p

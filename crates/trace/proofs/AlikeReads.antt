@@ -19,18 +19,19 @@ use Rattle.burst.specs.Bursts.{lengthOf}
 use Rattle.burst.specs.Pieces.{pieceCount, pieceFirst, pieceEnd, pieceAt}
 use Rattle.burst.proofs.Cut.{div-mono}
 use Rattle.burst.proofs.Words.{limit-words}
-use Rattle.bridge.specs.declared.Bridge.{Bridge}
-use Rattle.bridge.specs.State.{tagCount, withConfig, coreIn, slotsIn, missingOf, opened, freeSlot, freeConfig}
-use Rattle.bridge.specs.Memory.{pieceOf, readRefusal, readBridge}
-use Rattle.bridge.specs.Config.{Access, routedBridge}
-use Rattle.bridge.specs.Completions.{Held, held}
-use Rattle.bridge.specs.Take.{slotFreed}
-use Rattle.bridge_laws.specs.MemoryLaws.{Tables, tagOf, ReadKeeps, ReadOpens}
+use Rattle.machine.specs.Bridge.{Bridge}
+use Rattle.machine.specs.State.{tagCount, slotFree, withConfig, freeConfig, coreIn, setState, Open, opened, freeSlot}
+use Rattle.machine.specs.Memory.{pieceOf, readRefusal, readBridge}
+use Rattle.machine.specs.Config.{Access, routedBridge}
+use Rattle.machine.specs.Completions.{Held, held}
+use Rattle.machine.specs.Take.{slotFreed}
+use Rattle.bridge_laws.specs.MemoryLaws.{tagOf, ReadKeeps, ReadOpens}
 use Rattle.bridge_laws.proofs.Kept.{accepted-read-keeps}
 use Rattle.bridge_laws.proofs.Stored.{accepted-read-opens}
-use Rattle.bridge.proofs.Judging.{never}
-use Rattle.trace.specs.Sound.{Sizes, Sound}
+use Rattle.machine.proofs.Judging.{never}
+use Rattle.trace.specs.Sound.{Sound}
 use Rattle.trace.proofs.Opening.{lowest-free}
+use Rattle.trace.proofs.Opened.{tables-of}
 use Rattle.trace.proofs.AlikeStores.{Gap, SameAt, Slot, SlotOf, Stores}
 
 -- ---- the piece of a byte
@@ -81,20 +82,6 @@ same-gap m o p m' o' p' j i f em eo ep =
     record { tag = f .tag; opened = λ e. f .opened (sym em ∙ e); owner = eo ∙ f .owner; from = rw ep (f .from); to = rw (ep, em) (f .to) }
 
 -- ---- a read
-
-tables-of : (b : Bridge) → Sizes b → Tables b
-tables-of b s = record {
-  missing = s .missing;
-  sent = s .sent;
-  owner = s .owner;
-  place = s .place;
-  state = s .state;
-  start = s .start;
-  size = s .size;
-  pieces = s .pieces;
-  fault = s .fault;
-  cause = s .cause;
-}
 
 module _ (h g : Held) (q : Burst) (room : ℕ) (c : Bridge) (v : Sound h) (s : Stores h g) (ok : readRefusal (h .bridge) q room ≡ 0) where
   opens : ReadOpens (h .bridge) q (readBridge (h .bridge) q)
@@ -156,7 +143,7 @@ routed-stores h g a c v s some =
           (s .slots j b);
     }
   where
-    apart : (z : ℕ) → missingOf (h .bridge) z ≢ 0 → z ≢ lowest tagCount (h .bridge .core .free)
+    apart : (z : ℕ) → Open (h .bridge) z → z ≢ lowest tagCount (h .bridge .core .free)
     apart z n e = never (sym (lowest-free (h .bridge) some .free) ∙ (ap (isSet (h .bridge .core .free)) (sym e) ∙ v .tags z n .used))
 
 -- ---- a release
@@ -185,6 +172,6 @@ freed-stores h g k c s = go (ltb k 8)
         frame-slot j (x .state) (x .cause) (x .size) (x .missing) (x .owner) (x .place) (set (x .state) k 0) (x .cause) (x .size) (x .missing) (x .owner) (x .place) (h .store) (g .store)
         (getD-set-other (x .state) k j 0 0 e) refl refl (λ i f. f) (s .slots j b)
 
-    go : (z : Bool) → Stores (held (cond z (slotsIn (set (x .state) k 0) (x .start) (x .size) (x .pieces) (x .fault) (x .cause) x) (coreIn (withConfig freeConfig (x .core)) x)) (h .store)) (held c (g .store))
+    go : (z : Bool) → Stores (held (cond z (setState k slotFree x) (coreIn (withConfig freeConfig (x .core)) x)) (h .store)) (held c (g .store))
     go true = record { early = s .early; late = s .late; slots = λ j b. slot j b (ℕ-discrete j k) }
     go false = record { early = s .early; late = s .late; slots = s .slots }

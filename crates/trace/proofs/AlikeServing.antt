@@ -10,13 +10,13 @@ use lib.ListN.{length, getD, set}
 use lib.Seq.{paste, length-paste, getD-set-other, getD-set-same}
 use lib.Dec.{leb}
 use borrow.Author.Tests.{leb-true, leb-false}
-use Rattle.bridge.specs.declared.Bridge.{Bridge}
+use Rattle.machine.specs.Bridge.{Bridge}
 use Rattle.verdict.specs.declared.Cause.{Cause}
 use Rattle.verdict.specs.declared.Cause.the-variants.{Poison}
 use Rattle.verdict.specs.declared.Verdict.{Verdict}
 use Rattle.verdict.specs.declared.Verdict.the-variants.{Unexpected, Good, Poisoned, Failed}
-use Rattle.bridge.specs.State.{missingOf, placeOf, ownerOf, counted, shut, freed}
-use Rattle.bridge.specs.Completions.{storeSize, Held, held, failed, pieceClosed, closed, advanced, usefulBytes, memoryCompleted}
+use Rattle.machine.specs.State.{missingOf, ownerOf, placeOf, Open, counted, shut, freed}
+use Rattle.machine.specs.Completions.{storeSize, Held, held, failed, pieceClosed, closed, advanced, usefulBytes, memoryCompleted}
 use Rattle.trace.proofs.Touch.{failed-touched, failed-marks}
 use Rattle.trace.proofs.AlikeTwin.{Twin, shut-twin, freed-twin, counted-twin}
 use Rattle.trace.proofs.AlikeClosing.{failed-twin, missing-same}
@@ -154,7 +154,7 @@ module _ (o l : ℕ → Bool) (u : Bool) (h g : Held) (t k n : ℕ) (bytes : Lis
       go i (inr f) = other i f (ℕ-discrete (f .tag) t)
 
   -- the tag's last: if it is the slot's last piece, no byte is missing any more
-  pub good-last : missingOf (h .bridge) t ≤ n → (getD (h .bridge .pieces) k 0 ≤ 1 → (v : ℕ) → missingOf (h .bridge) v ≢ 0 → ownerOf (h .bridge) v ≡ k → v ≡ t) → SlotOf k (closed t k (held (counted t n (h .bridge)) (paste (h .store) (4096 * k + placeOf (h .bridge) t) bytes n))) (closed t k (held (counted t n (g .bridge)) (paste (g .store) (4096 * k + placeOf (h .bridge) t) bytes n)))
+  pub good-last : missingOf (h .bridge) t ≤ n → (getD (h .bridge .pieces) k 0 ≤ 1 → (v : ℕ) → Open (h .bridge) v → ownerOf (h .bridge) v ≡ k → v ≡ t) → SlotOf k (closed t k (held (counted t n (h .bridge)) (paste (h .store) (4096 * k + placeOf (h .bridge) t) bytes n))) (closed t k (held (counted t n (g .bridge)) (paste (g .store) (4096 * k + placeOf (h .bridge) t) bytes n)))
   unfolding counted shut freed
   good-last b alone =
       let x = counted t n (h .bridge) in
@@ -202,7 +202,7 @@ module _ (o l : ℕ → Bool) (u : Bool) (h g : Held) (t k skip : ℕ) (payload 
     (small : k < 8) (used : l k ≡ true) (taken : o t ≡ true) (p : Twin o l u (h .bridge) (g .bridge)) (s : SlotOf k h g)
     (hd : storeSize ≤ length (h .store)) (he : storeSize ≤ length (g .store)) (inside : placeOf (h .bridge) t < 4096)
     (waits : getD (h .bridge .state) k 0 ≡ 1) (lm : t < length (h .bridge .missing)) (lp : t < length (h .bridge .place))
-    (alone : getD (h .bridge .pieces) k 0 ≤ 1 → (v : ℕ) → missingOf (h .bridge) v ≢ 0 → ownerOf (h .bridge) v ≡ k → v ≡ t) where
+    (alone : getD (h .bridge .pieces) k 0 ≤ 1 → (v : ℕ) → Open (h .bridge) v → ownerOf (h .bridge) v ≡ k → v ≡ t) where
   pub served-slot : (v : Verdict) → Puts (placeOf (h .bridge) t) skip payload v → SlotOf k (memoryCompleted h t k skip payload v) (memoryCompleted g t k skip payload v)
   unfolding memoryCompleted advanced
   served-slot Unexpected z = s

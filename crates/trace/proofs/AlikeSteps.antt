@@ -15,19 +15,19 @@ use Rattle.ecam.specs.declared.Route.{Route}
 use Rattle.ecam.specs.declared.Route.the-variants.{OutOfRange, Local, Type0, Type1, NotRouted, DeviceNotZero}
 use Rattle.burst.specs.declared.Burst.{Burst}
 use Rattle.parts.specs.declared.ConfigSlot.{ConfigSlot}
-use Rattle.bridge.specs.declared.Bridge.{Bridge}
+use Rattle.machine.specs.Bridge.{Bridge}
 use Rattle.parts.specs.declared.Answer.{Answer}
-use Rattle.bridge.specs.declared.Answered.{Answered}
-use Rattle.parts.specs.declared.Response.{Response}
-use Rattle.parts.specs.declared.Response.the-variants.{Nothing, Okay}
-use Rattle.bridge.specs.State.{tagCount, coreIn, freeSlot, refused, answered, accepted, responseOf}
-use Rattle.bridge.specs.Memory.{readRefusal, readBridge, readBytes, readStep, writeRefusal, writeBytes, writeStep}
-use Rattle.bridge.specs.Config.{Access, routeOf, goesOut, configRefusal, configBridge, configBytes, configStep, localCore, routedBridge}
-use Rattle.bridge.specs.Completions.{storeSize, Held, held, plain}
-use Rattle.bridge.specs.Ticks.{ticked, storeRefusal, linkIn, linkLost, dropSlots, linked}
-use Rattle.bridge.specs.Take.{stateOf, takeRefusal, slotFreed, releaseStep}
-use Rattle.bridge.proofs.Refusals.{read-ok}
-use Rattle.bridge.proofs.Configs.{passed}
+use Rattle.machine.specs.State.{Answered}
+use Rattle.refusals.specs.declared.Response.{Response}
+use Rattle.refusals.specs.declared.Response.the-variants.{Nothing, Okay}
+use Rattle.machine.specs.State.{tagCount, coreIn, freeSlot, refused, answered, accepted, responseOf}
+use Rattle.machine.specs.Memory.{readRefusal, readBridge, readBytes, readStep, writeRefusal, writeBytes, writeStep}
+use Rattle.machine.specs.Config.{Access, routeOf, goesOut, configRefusal, configBridge, configBytes, configStep, localCore, routedBridge}
+use Rattle.machine.specs.Completions.{storeSize, Held, held, plain}
+use Rattle.machine.specs.Ticks.{ticked, storeRefusal, linkIn, linkLost, dropSlots, linked}
+use Rattle.machine.specs.Take.{stateOf, takeRefusal, slotFreed, releaseStep}
+use Rattle.machine.proofs.Refusals.{read-ok}
+use Rattle.machine.proofs.Configs.{passed}
 use Rattle.trace.specs.Events.{Event, read, write, config, completion, tick, link, look, release, Out, sentBy, step}
 use Rattle.trace.specs.Sound.{Sound}
 use Rattle.trace.proofs.Settling.{state-config, state-above}

@@ -11,9 +11,9 @@ use lib.ListN.{length, getD, set, take, drop, replicate, length-replicate, List�
 use lib.Seq.{paste, length-paste, length-paste-head, drop-paste, length-take-le, getD-set-other, getD-take, getD-drop, getD-append-add}
 use lib.Dec.{eqb, leb}
 use borrow.Author.Tests.{eqb-true, leb-true}
-use Rattle.bridge.specs.declared.Bridge.{Bridge}
-use Rattle.bridge.specs.State.{slotsIn, missingOf, placeOf, ownerOf, okay}
-use Rattle.bridge.specs.Completions.{storeSize, Held, held, zeroed, sizeOf, finished, pieceClosed}
+use Rattle.machine.specs.Bridge.{Bridge}
+use Rattle.machine.specs.State.{setPieces, missingOf, ownerOf, placeOf, okay}
+use Rattle.machine.specs.Completions.{storeSize, Held, held, zeroed, sizeOf, finished, pieceClosed}
 use Rattle.bridge_laws.specs.CompletionLaws.{Outside, Kept}
 use Rattle.trace.proofs.AlikeTwin.{Twin}
 
@@ -207,7 +207,7 @@ module _ (o l : ℕ → Bool) (u : Bool) where
       rw (← (p .slots .pieces .same k e)) (go (leb (getD (h .bridge .pieces) k 0) 1) refl)
     where
       less : Held → Held
-      less a = held (slotsIn (a .bridge .state) (a .bridge .start) (a .bridge .size) (set (a .bridge .pieces) k (getD (h .bridge .pieces) k 0 - 1)) (a .bridge .fault) (a .bridge .cause) (a .bridge)) (a .store)
+      less a = held (setPieces k (getD (h .bridge .pieces) k 0 - 1) (a .bridge)) (a .store)
 
       go : (z : Bool) → leb (getD (h .bridge .pieces) k 0) 1 ≡ z → SlotOf k (cond z (finished k h) (less h)) (cond z (finished k g) (less g))
       go true z = finished-slot h g k b e hd he p (last (leb-true _ _ z))

@@ -10,7 +10,7 @@ use lib.ListN.{length, getD, set, length-set}
 use lib.Seq.{getD-set-other}
 use lib.Dec.{eqb}
 use borrow.Author.Tests.{eq-eqb, ne-eqb}
-use Rattle.bridge.specs.Ticks.{nextTick, ageOf}
+use Rattle.machine.specs.Ticks.{nextTick, ageOf}
 
 -- ---- marks: entries that events may look at. They only grow
 

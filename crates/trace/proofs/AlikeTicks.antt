@@ -13,13 +13,14 @@ use borrow.Author.Tests.{eqb-true, eqb-false, ltb-true, ltb-false}
 use Rattle.address.specs.declared.Settings.{Settings}
 use Rattle.parts.specs.declared.ConfigSlot.{ConfigSlot}
 use Rattle.parts.specs.declared.Core.{Core}
-use Rattle.bridge.specs.declared.Bridge.{Bridge}
+use Rattle.ecam.specs.declared.Registers.{Registers}
+use Rattle.machine.specs.Bridge.{Bridge}
 use Rattle.verdict.specs.declared.Cause.the-variants.{Timeout}
-use Rattle.bridge.specs.State.{tagCount, withTicks, withFree, withConfig, coreIn, slotsIn, raisedCore, raise, missingOf, placeOf, ownerOf, isOpen, shut, slverr}
-use Rattle.bridge.specs.Completions.{Held, held, failed, pieceClosed, configDone}
-use Rattle.bridge.specs.Ticks.{nextTick, ageOf, isOld, timedOut, expire, expireTo, withLink, linkIn, dropSlot, dropSlots, dropConfig, linkLost}
+use Rattle.machine.specs.State.{tagCount, slotFinished, withTicks, withFree, withConfig, coreIn, setState, setPieces, setCause, raisedCore, raise, missingOf, ownerOf, placeOf, isOpen, Open, shut, slverr}
+use Rattle.machine.specs.Completions.{Held, held, failed, pieceClosed, configDone}
+use Rattle.machine.specs.Ticks.{nextTick, ageOf, isOld, timedOut, expire, expireTo, withLink, linkIn, dropSlot, dropSlots, dropConfig, linkLost}
 use Rattle.trace.proofs.AlikeTables.{agree-set, age-next, tick-fits}
-use Rattle.trace.proofs.AlikeTwin.{Cores, Twin, core-registers, core-raised, core-free, core-twin, slots-twin, raise-twin, shut-twin, open-below, open-used}
+use Rattle.trace.proofs.AlikeTwin.{Cores, Twin, core-registers, core-raised, core-free, core-twin, raise-twin, shut-twin, open-below, open-used}
 use Rattle.trace.proofs.AlikeClosing.{missing-same, failed-twin, piece-twin, answer-twin}
 
 -- ---- one request that times out
@@ -49,7 +50,7 @@ module _ (o l : ℕ → Bool) (u : Bool) where
     where
       go : (z : Bool) → isOpen (missingOf x t) (placeOf x t) ≡ z → z && eqb (ageOf (x .core .ticks) (getD (x .sent) t 0)) (x .settings .limit) ≡ z && eqb (ageOf (y .core .ticks) (getD (y .sent) t 0)) (y .settings .limit)
       go true e =
-          let n : missingOf x t ≢ 0 = open-not (missingOf x t) (placeOf x t) e in
+          let n : Open x t = open-not (missingOf x t) (placeOf x t) e in
           ap (λ (a : ℕ). eqb a (x .settings .limit)) (p .tags .age t (open-below o l u x y t p n) (open-used o l u x y t p n))
           ∙ ap (λ (s : Settings). eqb (ageOf (y .core .ticks) (getD (y .sent) t 0)) (s .limit)) (p .settings)
       go false e = refl
@@ -96,7 +97,7 @@ module _ (o l : ℕ → Bool) (u : Bool) where
     where
       go : (z : Bool) → isOld (h .bridge) t ≡ z → Twin o l u (cond z (timedOut t h) h .bridge) (cond z (timedOut t g) g .bridge)
       go true e =
-          let n : missingOf (h .bridge) t ≢ 0 = open-not (missingOf (h .bridge) t) (placeOf (h .bridge) t) (old-open (h .bridge) t e) in
+          let n : Open (h .bridge) t = open-not (missingOf (h .bridge) t) (placeOf (h .bridge) t) (old-open (h .bridge) t e) in
           timed-twin h g t (open-below o l u (h .bridge) (g .bridge) t p n) (open-used o l u (h .bridge) (g .bridge) t p n) p
       go false e = p
 
@@ -126,6 +127,8 @@ module _ (o l : ℕ → Bool) (u : Bool) where
         missing = p .tags .missing;
         owner = p .tags .owner;
         place = p .tags .place;
+        next = p .tags .next;
+        kind = p .tags .kind;
         age = λ t b e.
             age-next (x .core .ticks) (getD (x .sent) t 0)
             ∙ (ap (λ (a : ℕ). (a + 1) % 2 ^ 32) (p .tags .age t b e) ∙ sym (age-next (y .core .ticks) (getD (y .sent) t 0)));
@@ -141,7 +144,7 @@ module _ (o l : ℕ → Bool) (u : Bool) where
 
   pub link-twin : (x y : Bridge) (up : Bool) → Twin o l u x y → Twin o l u (coreIn (linkIn up (x .core)) x) (coreIn (linkIn up (y .core)) y)
   link-twin x y up p =
-      core-twin o l u x y (linkIn up (x .core)) (linkIn up (y .core)) (core-registers u (withLink up) (x .core) (y .core) (p .core)) (p .tags) p
+      core-twin o l u x y (linkIn up (x .core)) (linkIn up (y .core)) (core-registers u (λ (r : Registers). withLink r up) (x .core) (y .core) (p .core)) (p .tags) p
 
   core-dropped : (c d : Core) → Cores u c d → Cores u (withConfig (dropConfig (c .config)) c) (withConfig (dropConfig (d .config)) d)
   core-dropped c d p =
@@ -173,12 +176,14 @@ module _ (o l : ℕ → Bool) (u : Bool) where
         settings = p .settings;
         core =
             core-raised u 0 (linkIn false (withFree (2 ^ tagCount - 1) c)) (linkIn false (withFree (2 ^ tagCount - 1) d))
-            (core-registers u (withLink false) (withFree (2 ^ tagCount - 1) c) (withFree (2 ^ tagCount - 1) d) q);
+            (core-registers u (λ (r : Registers). withLink r false) (withFree (2 ^ tagCount - 1) c) (withFree (2 ^ tagCount - 1) d) q);
         tags =
             record {
               missing = refl;
               owner = p .tags .owner;
               place = p .tags .place;
+              next = p .tags .next;
+              kind = p .tags .kind;
               age = p .tags .age;
               rooms = length-replicate tagCount zero';
               owners = p .tags .owners;
@@ -197,23 +202,27 @@ module _ (o l : ℕ → Bool) (u : Bool) where
       none z (suc n) (suc t) = none z n t
 
   -- one slot
-  drop-at : (x y : Bridge) (k : ℕ) → l k ≡ true → Twin o l u x y → Twin o l u (slotsIn (set (x .state) k 2) (x .start) (x .size) (set (x .pieces) k 0) (x .fault) (set (x .cause) k slverr) x) (slotsIn (set (y .state) k 2) (y .start) (y .size) (set (y .pieces) k 0) (y .fault) (set (y .cause) k slverr) y)
+  drop-at : (x y : Bridge) (k : ℕ) → l k ≡ true → Twin o l u x y → Twin o l u (setState k slotFinished (setPieces k 0 (setCause k slverr x))) (setState k slotFinished (setPieces k 0 (setCause k slverr y)))
   drop-at x y k e p =
-      slots-twin o l u x y (set (x .state) k 2) (x .start) (x .size) (set (x .pieces) k 0) (x .fault) (set (x .cause) k slverr) (set (y .state) k 2) (y .start) (y .size) (set (y .pieces) k 0) (y .fault) (set (y .cause) k slverr)
-      (record {
-        state = ap (λ (s : List ℕ). set s k 2) (p .slots .state);
-        start = p .slots .start;
-        size = p .slots .size;
-        pieces = agree-set l (x .pieces) (y .pieces) k 0 0 (p .slots .pieces) (λ z. refl);
-        fault = p .slots .fault;
-        cause = agree-set l (x .cause) (y .cause) k slverr slverr (p .slots .cause) (λ z. refl);
-        used = λ j z. used j z (ℕ-discrete j k);
-        below = p .slots .below;
-        faults = p .slots .faults;
-        causes = length-set (x .cause) k slverr ∙ p .slots .causes;
-        marked = λ j z. marked j z (ℕ-discrete j k);
-      })
-      p
+      record {
+        settings = p .settings;
+        core = p .core;
+        tags = p .tags;
+        slots = record {
+          state = ap (λ (s : List ℕ). set s k 2) (p .slots .state);
+          size = p .slots .size;
+          pieces = agree-set l (x .pieces) (y .pieces) k 0 0 (p .slots .pieces) (λ z. refl);
+          fault = p .slots .fault;
+          cause = agree-set l (x .cause) (y .cause) k slverr slverr (p .slots .cause) (λ z. refl);
+          used = λ j z. used j z (ℕ-discrete j k);
+          below = p .slots .below;
+          faults = p .slots .faults;
+          causes = length-set (x .cause) k slverr ∙ p .slots .causes;
+          marked = λ j z. marked j z (ℕ-discrete j k);
+        };
+        reads = p .reads;
+        words = p .words;
+      }
     where
       used : (j : ℕ) → getD (set (x .state) k 2) j 0 ≢ 0 → Dec (j ≡ k) → l j ≡ true
       used j z (yes q) = subst (λ (w : ℕ). l w ≡ true) (sym q) e

@@ -11,11 +11,11 @@ use lib.Seq.{getD-set-other}
 use lib.Dec.{eqb, ltb}
 use borrow.Author.Tests.{eqb-true, eqb-false, ltb-true, ltb-false}
 use Rattle.verdict.specs.declared.Cause.the-variants.{Timeout}
-use Rattle.bridge.specs.State.{tagCount, withConfig, coreIn, slotsIn, raisedCore, missingOf, placeOf, ownerOf, isOpen, shut, slverr}
-use Rattle.bridge.specs.Completions.{storeSize, Held, held, zeroed, sizeOf, failed, pieceClosed, configDone}
-use Rattle.bridge.specs.Ticks.{isOld, timedOut, expire, expireTo, dropSlot, dropSlots, linkLost}
+use Rattle.machine.specs.State.{tagCount, slotFinished, withConfig, coreIn, setState, setPieces, setCause, raisedCore, missingOf, ownerOf, placeOf, isOpen, Open, shut, slverr}
+use Rattle.machine.specs.Completions.{storeSize, Held, held, zeroed, sizeOf, failed, pieceClosed, configDone}
+use Rattle.machine.specs.Ticks.{isOld, timedOut, expire, expireTo, dropSlot, dropSlots, linkLost}
 use Rattle.bridge_laws.specs.CompletionLaws.{Kept}
-use Rattle.bridge.proofs.Judging.{open-room}
+use Rattle.machine.proofs.Judging.{open-room}
 use Rattle.bridge_laws.proofs.Keeping.{then, failed-only, shut-only, kept-then, kept-bridge, piece-kept}
 use Rattle.trace.proofs.AlikeTwin.{Twin, open-below, open-used}
 use Rattle.trace.proofs.AlikeTicks.{open-not, old-open, old-same, expire-to-twin, lost-twin, drops-twin}
@@ -85,7 +85,7 @@ module _ (o l : ℕ → Bool) (u : Bool) where
       go : (z : Bool) → isOld (h .bridge) t ≡ z → Stores (cond z (timedOut t h) h) (cond z (timedOut t g) g)
       go true e =
           let w = old-open (h .bridge) t e in
-          let n : missingOf (h .bridge) t ≢ 0 = open-not (missingOf (h .bridge) t) (placeOf (h .bridge) t) w in
+          let n : Open (h .bridge) t = open-not (missingOf (h .bridge) t) (placeOf (h .bridge) t) w in
           timed-stores h g t (open-below o l u (h .bridge) (g .bridge) t p n) (open-used o l u (h .bridge) (g .bridge) t p n) w p s
       go false e = s
 
@@ -108,7 +108,7 @@ module _ (o l : ℕ → Bool) (u : Bool) where
   drop-finals h g k small p s = rw (← (ap (λ (x : List ℕ). getD x k 0) (p .slots .state))) (go (eqb (getD (h .bridge .state) k 0) 1) refl)
     where
       dropped : Held → Held
-      dropped a = held (slotsIn (set (a .bridge .state) k 2) (a .bridge .start) (a .bridge .size) (set (a .bridge .pieces) k 0) (a .bridge .fault) (set (a .bridge .cause) k slverr) (a .bridge)) (zeroed k (sizeOf (a .bridge) k) (a .store))
+      dropped a = held (setState k slotFinished (setPieces k 0 (setCause k slverr (a .bridge)))) (zeroed k (sizeOf (a .bridge) k) (a .store))
 
       bytes : (e : l k ≡ true) (j : ℕ) → j < 8 → Dec (j ≡ k) → getD (set (h .bridge .state) k 2) j 0 ≡ 2 → (i : ℕ) → i < sizeOf (h .bridge) j → SameAt j i (zeroed k (sizeOf (h .bridge) k) (h .store)) (zeroed k (sizeOf (h .bridge) k) (g .store))
       bytes e j m (yes q) z i w =

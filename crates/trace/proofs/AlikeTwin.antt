@@ -9,15 +9,17 @@ use mathlib.Core.Bool.{Bool, true, false, cond}
 use native.Mathlib.Decide.{ℕ-discrete}
 use lib.ListN.{length, getD, set, length-set}
 use lib.Seq.{getD-set-other}
-use lib.Dec.{eqb}
 use Rattle.bits.specs.Bits.{setBit}
 use Rattle.ecam.specs.declared.Registers.{Registers}
 use Rattle.ecam.specs.Registers.{raised, withDecode}
 use Rattle.parts.specs.declared.ConfigSlot.{ConfigSlot}
 use Rattle.parts.specs.declared.Core.{Core}
-use Rattle.bridge.specs.declared.Bridge.{Bridge}
-use Rattle.bridge.specs.State.{tagCount, withRegisters, withFree, withConfig, coreIn, slotsIn, raisedCore, raise, missingOf, placeOf, ownerOf, counted, shut, freed, refusalChange}
-use Rattle.bridge.specs.Ticks.{ageOf}
+use Rattle.burst.specs.Words.{lowerAddress}
+use Rattle.refusals.specs.Table.{Change, keeps, sets, changeOf}
+use Rattle.parts.specs.Answers.{changed}
+use Rattle.machine.specs.Bridge.{Bridge}
+use Rattle.machine.specs.State.{tagCount, withRegisters, withFree, withConfig, coreIn, raisedCore, raise, missingOf, ownerOf, placeOf, nextAddress, Open, counted, shut, freed, refusalChange}
+use Rattle.machine.specs.Ticks.{ageOf}
 use Rattle.trace.proofs.Settling.{entry-below}
 use Rattle.trace.proofs.AlikeTables.{zero-kept, Agree, agree-set}
 
@@ -32,11 +34,13 @@ pub record Cores (u : Bool) (c d : Core) : Type 0 where
   pub early : c .ticks < 2 ^ 32
   pub late : d .ticks < 2 ^ 32
 
--- the counters; then missing, sent, owner and place of each
-pub record Tags (o : ℕ → Bool) (n m : ℕ) (mx sx ox px my sy oy py : List ℕ) : Type 0 where
+-- the counters; then missing, sent, owner, place, next and kind of each
+pub record Tags (o : ℕ → Bool) (n m : ℕ) (mx sx ox px ax kx my sy oy py ay ky : List ℕ) : Type 0 where
   pub missing : mx ≡ my
   pub owner : Agree o ox oy
   pub place : Agree o px py
+  pub next : Agree o ax ay
+  pub kind : Agree o kx ky
   pub age : (t : ℕ) → t < tagCount → o t ≡ true → ageOf n (getD sx t 0) ≡ ageOf m (getD sy t 0)
   pub rooms : length mx ≡ tagCount
   pub owners : length ox ≡ tagCount
@@ -44,10 +48,9 @@ pub record Tags (o : ℕ → Bool) (n m : ℕ) (mx sx ox px my sy oy py : List �
   pub late : length sy ≡ tagCount
   pub used : (t : ℕ) → getD mx t 0 ≢ 0 → o t ≡ true
 
--- state, start, size, pieces, fault and cause of each
-pub record Slots (l : ℕ → Bool) (sx ax nx qx fx ex sy ay ny qy fy ey : List ℕ) : Type 0 where
+-- state, size, pieces, fault and cause of each
+pub record Slots (l : ℕ → Bool) (sx nx qx fx ex sy ny qy fy ey : List ℕ) : Type 0 where
   pub state : sx ≡ sy
-  pub start : Agree l ax ay
   pub size : Agree l nx ny
   pub pieces : Agree l qx qy
   pub fault : Agree l fx fy
@@ -61,11 +64,12 @@ pub record Slots (l : ℕ → Bool) (sx ax nx qx fx ex sy ay ny qy fy ey : List 
 
 abbrev pub TagsOf : (ℕ → Bool) → Bridge → Bridge → Type 0
 TagsOf o x y =
-    Tags o (x .core .ticks) (y .core .ticks) (x .missing) (x .sent) (x .owner) (x .place) (y .missing) (y .sent) (y .owner) (y .place)
+    Tags o (x .core .ticks) (y .core .ticks) (x .missing) (x .sent) (x .owner) (x .place) (x .next) (x .kind) (y .missing) (y .sent)
+    (y .owner) (y .place) (y .next) (y .kind)
 
 abbrev pub SlotsOf : (ℕ → Bool) → Bridge → Bridge → Type 0
 SlotsOf l x y =
-    Slots l (x .state) (x .start) (x .size) (x .pieces) (x .fault) (x .cause) (y .state) (y .start) (y .size) (y .pieces) (y .fault) (y .cause)
+    Slots l (x .state) (x .size) (x .pieces) (x .fault) (x .cause) (y .state) (y .size) (y .pieces) (y .fault) (y .cause)
 
 pub record Twin (o l : ℕ → Bool) (u : Bool) (x y : Bridge) : Type 0 where
   pub settings : x .settings ≡ y .settings
@@ -125,10 +129,10 @@ core-config u a b c d e t =
 
 module _ (o l : ℕ → Bool) (u : Bool) where
   -- an open tag is one of the tags, and used
-  pub open-below : (x y : Bridge) (t : ℕ) → Twin o l u x y → missingOf x t ≢ 0 → t < tagCount
+  pub open-below : (x y : Bridge) (t : ℕ) → Twin o l u x y → Open x t → t < tagCount
   open-below x y t p n = let h : t < length (x .missing) = entry-below (x .missing) t n in rw (p .tags .rooms) at h
 
-  pub open-used : (x y : Bridge) (t : ℕ) → Twin o l u x y → missingOf x t ≢ 0 → o t ≡ true
+  pub open-used : (x y : Bridge) (t : ℕ) → Twin o l u x y → Open x t → o t ≡ true
   open-used x y t p n = p .tags .used t n
 
   pub either-twin : (z : Bool) (x x' y y' : Bridge) → Twin o l u x y → Twin o l u x' y' → Twin o l u (cond z x x') (cond z y y')
@@ -140,10 +144,6 @@ module _ (o l : ℕ → Bool) (u : Bool) where
   core-twin x y c d p q t =
       record { settings = t .settings; core = p; tags = q; slots = t .slots; reads = t .reads; words = t .words }
 
-  pub slots-twin : (x y : Bridge) (sx ax nx qx fx ex sy ay ny qy fy ey : List ℕ) → Slots l sx ax nx qx fx ex sy ay ny qy fy ey → Twin o l u x y → Twin o l u (slotsIn sx ax nx qx fx ex x) (slotsIn sy ay ny qy fy ey y)
-  slots-twin x y sx ax nx qx fx ex sy ay ny qy fy ey p t =
-      record { settings = t .settings; core = t .core; tags = t .tags; slots = p; reads = t .reads; words = t .words }
-
   pub raise-twin : (x y : Bridge) (i : ℕ) → Twin o l u x y → Twin o l u (raise i x) (raise i y)
   unfolding raisedCore
   raise-twin x y i t = core-twin x y (raisedCore i (x .core)) (raisedCore i (y .core)) (core-raised u i (x .core) (y .core) (t .core)) (t .tags) t
@@ -151,12 +151,11 @@ module _ (o l : ℕ → Bool) (u : Bool) where
   -- the change of a refusal
   pub refused-twin : (x y : Bridge) (n : ℕ) → Twin o l u x y → Twin o l u (coreIn (refusalChange n (x .core)) x) (coreIn (refusalChange n (y .core)) y)
   unfolding refusalChange
-  refused-twin x y n t = go (eqb n 3) (eqb n 13) refl refl
+  refused-twin x y n t = go (changeOf n)
     where
-      go : (z w : Bool) → eqb n 3 ≡ z → eqb n 13 ≡ w → Twin o l u (coreIn (refusalChange n (x .core)) x) (coreIn (refusalChange n (y .core)) y)
-      go true w e f = rw e (raise-twin x y 25 t)
-      go false true e f = rw (e, f) (raise-twin x y 21 t)
-      go false false e f = rw (e, f) t
+      go : (z : Change) → Twin o l u (coreIn (changed z (x .core)) x) (coreIn (changed z (y .core)) y)
+      go keeps = t
+      go (sets i) = raise-twin x y i t
 
   -- ---- tags
 
@@ -169,6 +168,8 @@ module _ (o l : ℕ → Bool) (u : Bool) where
       missing = ap (λ (m : List ℕ). set m t 0) (p .tags .missing);
       owner = p .tags .owner;
       place = p .tags .place;
+      next = p .tags .next;
+      kind = p .tags .kind;
       age = p .tags .age;
       rooms = length-set (x .missing) t 0 ∙ p .tags .rooms;
       owners = p .tags .owners;
@@ -198,6 +199,8 @@ module _ (o l : ℕ → Bool) (u : Bool) where
       missing = ap (λ (m : List ℕ). set m t (getD m t 0 - n)) (p .tags .missing);
       owner = p .tags .owner;
       place = agree-set o (x .place) (y .place) t (placeOf x t + n) (placeOf y t + n) (p .tags .place) (λ z. ap (λ (i : ℕ). i + n) (p .tags .place .same t e));
+      next = agree-set o (x .next) (y .next) t (lowerAddress (nextAddress x t + n)) (lowerAddress (nextAddress y t + n)) (p .tags .next) (λ z. ap (λ (i : ℕ). lowerAddress (i + n)) (p .tags .next .same t e));
+      kind = p .tags .kind;
       age = p .tags .age;
       rooms = length-set (x .missing) t (missingOf x t - n) ∙ p .tags .rooms;
       owners = p .tags .owners;

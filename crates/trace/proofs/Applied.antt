@@ -15,16 +15,16 @@ use Rattle.address.specs.Windows.{holds, firstFrom, windowOf, translated}
 use Rattle.burst.specs.Bursts.{endFrom, burstRight, burstNumber, lengthOf}
 use Rattle.burst.specs.Pieces.{pieceCount, pieceFirst, pieceEnd, pieceAt, addresses}
 use Rattle.ecam.specs.declared.Registers.{Registers}
-use Rattle.ecam.specs.Registers.{some, decodeBits, isDecodeBit, byte, strobe, strobed, reached, cleared, numbered, writeBuses, localWrite, raised, fresh}
+use Rattle.ecam.specs.Registers.{some, decodeBits, isDecodeBit, byte, strobe, strobed, reached, cleared, numbered, writeBuses, localWrite, raised, fresh, withSecondary, withSubordinate}
 use Rattle.ecam.specs.Route.{route}
 use Rattle.ecam.specs.Request.{dataWord}
-use Rattle.bridge.specs.State.{registersOf, raisedCore, opened, counted, shut, freed, freeSlotFrom, responseOf, refusalResponse, refusalChange, refusal, accepted, refused, freshCore, freshBridge, newBridge}
-use Rattle.bridge.specs.Memory.{areaSize, pieceOf, pcieOf, readRefusal, claimed, readTo, readStep}
-use Rattle.bridge.specs.Config.{configNumber, localCore, routedBridge, configStep}
-use Rattle.bridge.specs.Verdict.{memoryVerdict, configVerdict}
-use Rattle.bridge.specs.Completions.{faulted, failed, finished, pieceClosed, advanced, memoryCompleted, configAnswer, configCompleted, verdictOf, completionOf, completeRefusal, expected, completed}
-use Rattle.bridge.specs.Ticks.{timedOut, expire, expireTo, ticked, dropSlot, dropSlots, linkLost, linked}
-use Rattle.bridge.specs.Take.{stateIn, stateOf, takeNumber, looked, slotFreed, releaseStep}
+use Rattle.machine.specs.State.{registersOf, raisedCore, opened, counted, shut, freed, freeSlotFrom, responseOf, refusalResponse, refusalChange, refusal, accepted, refused, freshCore, freshBridge, newBridge}
+use Rattle.machine.specs.Memory.{areaSize, pieceOf, pcieOf, readRefusal, claimed, readTo, readStep}
+use Rattle.machine.specs.Config.{configNumber, localCore, routedBridge, configStep}
+use Rattle.machine.specs.Verdict.{memoryVerdict, configVerdict}
+use Rattle.machine.specs.Completions.{faulted, failed, finished, pieceClosed, advanced, memoryCompleted, configAnswer, configCompleted, verdictOf, completionOf, completeRefusal, expected, completed}
+use Rattle.machine.specs.Ticks.{timedOut, expire, expireTo, ticked, dropSlot, dropSlots, linkLost, linked}
+use Rattle.machine.specs.Take.{stateIn, stateOf, takeNumber, looked, slotFreed, releaseStep}
 use Rattle.trace.specs.Events.{read, config, completion, tick, link, look, release}
 use Rattle.trace.specs.FarSide.{paired}
 use Rattle.trace.specs.Claims.{Answered, Until, goodBytes, Left}
@@ -152,7 +152,7 @@ left-new =
 
 -- each against what it is: two long runs are not compared with each other
 abbrev cleared-registers : Registers
-cleared-registers = record { primary = 0; secondary = 1; subordinate = 1; disable = false; decode = 0; mask = 0; link = false }
+cleared-registers = withSubordinate (withSecondary fresh 1) 1
 
 settings-old : old .bridge .settings ≡ settings
 unfolding bit isSet fromBits setBit clearBit freeFrom validCompletion completionReserved readCompletion powerAmong eachFrom windowRight apart windowsRight settingsRight settingsNumber holds firstFrom windowOf translated endFrom burstRight burstNumber lengthOf pieceCount pieceFirst pieceEnd pieceAt addresses some decodeBits isDecodeBit byte strobe strobed reached cleared numbered writeBuses localWrite raised fresh route dataWord raisedCore opened counted shut freed freeSlotFrom responseOf refusalResponse refusalChange refusal accepted refused freshCore freshBridge newBridge pcieOf readRefusal claimed readTo readStep configNumber localCore routedBridge configStep memoryVerdict configVerdict faulted failed finished pieceClosed advanced memoryCompleted configAnswer configCompleted verdictOf completionOf completeRefusal expected completed timedOut expire expireTo ticked dropSlot dropSlots linkLost linked stateIn takeNumber looked slotFreed releaseStep

@@ -11,13 +11,13 @@ use lib.ListN.{length, getD}
 use lib.Dec.{ltb}
 use borrow.Author.Tests.{eq-eqb, ne-eqb, ltb-true, ltb-false}
 use Rattle.bits.specs.Bits.{isSet}
-use Rattle.bridge.specs.declared.Bridge.{Bridge}
-use Rattle.bridge.specs.State.{missingOf, ownerOf}
-use Rattle.bridge.specs.Completions.{nextAddress}
+use Rattle.machine.specs.Bridge.{Bridge}
+use Rattle.machine.specs.State.{missingOf, ownerOf, kindOf, Open}
+use Rattle.machine.specs.Completions.{nextAddress}
 use Rattle.trace.specs.Events.{Event}
 use Rattle.trace.specs.FarSide.{Wanted, bytes, word, Ask, Answers, Request, Wire, sending, paired, Some, AllAnswered}
 use Rattle.trace.proofs.Turn.{no-way, some-length}
-use Rattle.trace.proofs.Wire.{At, ownOf, Flow, Stream, Open, Quiet, TagFine, Labels}
+use Rattle.trace.proofs.Wire.{At, ownOf, Flow, Stream, OpenFine, Quiet, TagFine, Labels}
 
 -- ---- on the wire
 
@@ -97,7 +97,8 @@ find (a ∷ l) t = by (ℕ-discrete (a .tag) t) (find l t)
 pub record TagKept (b x : Bridge) (t : ℕ) : Type 0 where
   pub missing : missingOf x t ≡ missingOf b t
   pub owner : ownerOf x t ≡ ownerOf b t
-  pub next : missingOf b t ≢ 0 → ownerOf b t < 8 → nextAddress x t ≡ nextAddress b t
+  pub next : nextAddress x t ≡ nextAddress b t
+  pub kind : kindOf x t ≡ kindOf b t
   pub free : isSet (x .core .free) t ≡ true → isSet (b .core .free) t ≡ true
 
 -- the tag of a request is open for what the request wants
@@ -133,16 +134,16 @@ module _ (sent : ℕ → List (List ℕ)) where
 
   -- ---- tags that stay as they were
 
-  stream-kept : (b x : Bridge) (es : List Event) (i t : ℕ) → TagKept b x t → missingOf b t ≢ 0 → ownerOf b t < 8 → Stream sent b es i t → Stream sent x es i t
+  stream-kept : (b x : Bridge) (es : List Event) (i t : ℕ) → TagKept b x t → Open b t → ownerOf b t < 8 → Stream sent b es i t → Stream sent x es i t
   stream-kept b x es i t k m o f =
       record {
         whole = f .whole;
         next = f .next;
         flow = subst (λ (n : ℕ). Flow sent es i (f .whole) (f .next) n) (sym (k .missing)) (f .flow);
-        low = f .low ∙ ap (λ (n : ℕ). n % 128) (sym (k .next m o));
+        low = f .low ∙ ap (λ (n : ℕ). n % 128) (sym (k .next));
       }
 
-  open-kept : (b x : Bridge) (w : Wire) (es : List Event) (t : ℕ) → TagKept b x t → missingOf b t ≢ 0 → Open sent b w es t → Open sent x w es t
+  open-kept : (b x : Bridge) (w : Wire) (es : List Event) (t : ℕ) → TagKept b x t → Open b t → OpenFine sent b w es t → OpenFine sent x w es t
   open-kept b x w es t k m o =
       record {
         here = o .here;
@@ -155,7 +156,7 @@ module _ (sent : ℕ → List (List ℕ)) where
   fine-kept b x w es t k f =
       record {
         quiet = λ s l. f .quiet (k .free s) l;
-        opens = λ m. let n : missingOf b t ≢ 0 = λ e. m (k .missing ∙ e) in open-kept b x w es t k n (f .opens n);
+        opens = λ m. let n : Open b t = λ e. m (k .missing ∙ e) in open-kept b x w es t k n (f .opens n);
       }
 
   -- the same under requests with other tags

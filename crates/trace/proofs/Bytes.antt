@@ -14,14 +14,14 @@ use Rattle.burst.specs.Bursts.{lengthOf}
 use Rattle.burst.specs.Pieces.{pieceCount, pieceFirst, pieceEnd, pieceAt, addresses}
 use Rattle.burst.proofs.Cut.{div-mono}
 use Rattle.burst.proofs.Pieces.{accepted-covers}
-use Rattle.bridge.specs.declared.Bridge.{Bridge}
-use Rattle.parts.specs.declared.Response.the-variants.{Okay, Slverr, Decerr}
-use Rattle.bridge.specs.State.{missingOf, ownerOf, freeSlot, responseOf, accepted}
-use Rattle.bridge.specs.Memory.{pcieOf, piecesOf, pieceOf, readRefusal, readBridge, readStep}
-use Rattle.bridge.specs.Completions.{storeSize, Held, held}
-use Rattle.bridge.specs.Take.{stateOf, takeNumber, takeRefusal, looked, releaseStep}
+use Rattle.machine.specs.Bridge.{Bridge}
+use Rattle.refusals.specs.declared.Response.the-variants.{Okay, Slverr, Decerr}
+use Rattle.machine.specs.State.{missingOf, ownerOf, Open, freeSlot, responseOf, accepted}
+use Rattle.machine.specs.Memory.{pcieOf, piecesOf, pieceOf, readRefusal, readBridge, readStep}
+use Rattle.machine.specs.Completions.{storeSize, Held, held}
+use Rattle.machine.specs.Take.{stateOf, takeNumber, takeRefusal, looked, releaseStep}
 use Rattle.bridge_laws.specs.MemoryLaws.{tagOf}
-use Rattle.bridge.proofs.Refusals.{read-ok}
+use Rattle.machine.proofs.Refusals.{read-ok}
 use Rattle.bridge_laws.proofs.TakeLaws.{look-at-slot}
 use Rattle.trace.specs.Events as event
 use Rattle.trace.specs.Events.{Event, step, run, start}
@@ -88,7 +88,7 @@ module _ (sent : ℕ → List (List ℕ)) (h : Held) (q : Burst) (room : ℕ) (s
       ap (ownOf (z .live)) (sym (tag-of j g))
       ∙ own-new (turns (h .bridge) q) w j (turns-distinct sent h q room s e) (omega (arith, turns-many (h .bridge) q))
 
-  open-at : (j : ℕ) → j < piecesOf l q → missingOf x (tagOf (h .bridge) j) ≢ 0
+  open-at : (j : ℕ) → j < piecesOf l q → Open x (tagOf (h .bridge) j)
   open-at j g y = omega (arith, opens-read sent h q room s e .missing j g, piece-fits (h .bridge) q room j (s .right) e g .some)
 
   abbrev from : ℕ → ℕ
@@ -112,7 +112,7 @@ module _ (sent : ℕ → List (List ℕ)) (h : Held) (q : Burst) (room : ℕ) (s
         place = omega (arith, opens-read sent h q room s e .place j g, opens-read sent h q room s e .missing j g);
       }
 
-  mine : (t : ℕ) → missingOf x t ≢ 0 → ownerOf x t ≡ k → Mine sent l pos q (w .count) k x z es t
+  mine : (t : ℕ) → Open x t → ownerOf x t ≡ k → Mine sent l pos q (w .count) k x z es t
   mine t m o = by (find (turns (h .bridge) q) t)
     where
       by : ((j : ℕ) × (j < length (turns (h .bridge) q)) × (askAt (turns (h .bridge) q) j .tag ≡ t)) ⊎ ((j : ℕ) → j < length (turns (h .bridge) q) → askAt (turns (h .bridge) q) j .tag ≢ t)

@@ -15,19 +15,20 @@ use Rattle.bits.proofs.Bits.{set-sets}
 use Rattle.common.proofs.Tests.{row, and-left}
 use Rattle.tlp.specs.declared.completion.Completion.{Completion}
 use Rattle.tlp.specs.declared.completion.CompletionRead.the-variants.{Header}
-use Rattle.bridge.specs.declared.Bridge.{Bridge}
+use Rattle.burst.specs.Words.{lowerAddress}
+use Rattle.machine.specs.Bridge.{Bridge}
 use Rattle.verdict.specs.declared.Cause.{Cause}
 use Rattle.verdict.specs.declared.Verdict.{Verdict}
 use Rattle.verdict.specs.declared.Verdict.the-variants.{Unexpected, Good, Poisoned, Failed}
-use Rattle.bridge.specs.State.{tagCount, missingOf, placeOf, ownerOf, isOpen, counted, shut, freed}
-use Rattle.bridge.specs.Verdict.{causeOf, useful, inOrder, memoryVerdict}
-use Rattle.bridge.specs.Completions.{Held, completionOf, nextAddress}
+use Rattle.machine.specs.State.{tagCount, missingOf, ownerOf, isOpen, Open, counted, shut, freed}
+use Rattle.machine.specs.Verdict.{causeOf, useful, inOrder, memoryVerdict}
+use Rattle.machine.specs.Completions.{Held, completionOf, nextAddress}
 use Rattle.trace.specs.Events.{Event, completion}
 use Rattle.trace.specs.FarSide.{carries, fails, Wire, Paired, paired}
 use Rattle.trace.specs.Sound.{Sound}
 use Rattle.trace.proofs.Settling.{entry-below, tag-below}
 use Rattle.trace.proofs.Turn.{no-path, no-way, some-none, last-comes, sends-none}
-use Rattle.trace.proofs.Wire.{ownOf, Flow, Flows, Stream, Open, Quiet, TagFine, Wired, own-comes, later-none, paired-own, flow-next, wired-later}
+use Rattle.trace.proofs.Wire.{ownOf, Flow, Flows, Stream, OpenFine, Quiet, TagFine, Wired, own-comes, later-none, paired-own, flow-next, wired-later}
 use Rattle.trace.proofs.Tagged.{TagsSame, MemoryTags, part, last, bad, closing}
 use Rattle.trace.proofs.Asks.{TagKept, fine-kept}
 
@@ -80,7 +81,7 @@ module _ (c : Completion) (missing next : ℕ) where
 pub open-missing : (missing place : ℕ) → isOpen missing place ≡ true → missing ≢ 0
 open-missing m p e z = no-way (sym (and-left (not (eqb m 0)) (leb (p + m) 4096) e) ∙ rw (eq-eqb m 0 z))
 
--- ---- tables
+-- ---- columns
 
 pub set-gone : (l : List ℕ) (t : ℕ) → getD (set l t 0) t 0 ≡ 0
 set-gone [] t = refl
@@ -92,7 +93,8 @@ kept-same b x u p =
     record {
       missing = ap (λ (l : List ℕ). getD l u 0) (p .missing);
       owner = ap (λ (l : List ℕ). getD l u 0) (p .owner);
-      next = λ m o. rw (p .start, p .owner, p .place);
+      next = ap (λ (l : List ℕ). getD l u 0) (p .next);
+      kind = ap (λ (l : List ℕ). getD l u 0) (p .kind);
       free = λ s. rw (p .free) at s;
     }
 
@@ -101,7 +103,8 @@ kept-then b x y u p q =
     record {
       missing = q .missing ∙ p .missing;
       owner = q .owner ∙ p .owner;
-      next = λ m o. q .next (λ z. m (sym (p .missing) ∙ z)) (rw (p .owner) o) ∙ p .next m o;
+      next = q .next ∙ p .next;
+      kind = q .kind ∙ p .kind;
       free = λ s. p .free (q .free s);
     }
 
@@ -111,7 +114,8 @@ kept-counted b t n u d =
     record {
       missing = getD-set-other (b .missing) t u (missingOf b t - n) 0 d;
       owner = refl;
-      next = λ m o. ap (λ (x : ℕ). getD (b .start) (ownerOf b u) 0 + x) (getD-set-other (b .place) t u (placeOf b t + n) 0 d);
+      next = getD-set-other (b .next) t u (lowerAddress (nextAddress b t + n)) 0 d;
+      kind = refl;
       free = λ s. s;
     }
 
@@ -121,18 +125,19 @@ kept-closing b t u l d =
     record {
       missing = getD-set-other (b .missing) t u 0 0 d;
       owner = refl;
-      next = λ m o. refl;
+      next = refl;
+      kind = refl;
       free = λ s. sym (set-sets tagCount (b .core .free) t l .others u d) ∙ s;
     }
 
 -- ---- a completion for a memory read
 
 -- the low bits of the next address move on together
-low-moves : (a b n : ℕ) → a % 128 ≡ b % 128 → (a + n) % 128 ≡ (b + n) % 128
+low-moves : (a b n : ℕ) → a % 128 ≡ b % 128 → (a + n) % 128 ≡ lowerAddress (b + n) % 128
 low-moves a b n e = omega arith
 
 module _ (sent : ℕ → List (List ℕ)) (h : Held) (w : Wire) (es : List Event) (i : ℕ) (s : List ℕ) (c : Completion) (e : completionOf s ≡ Header c)
-    (v : Wired sent h w (completion i s ∷ es)) (q : Paired w (completion i s)) (m : missingOf (h .bridge) (c .tag) ≢ 0) where
+    (v : Wired sent h w (completion i s ∷ es)) (q : Paired w (completion i s)) (m : Open (h .bridge) (c .tag)) where
   abbrev own : ℕ
   own = ownOf (w .live) (c .tag)
 
@@ -143,7 +148,7 @@ module _ (sent : ℕ → List (List ℕ)) (h : Held) (w : Wire) (es : List Event
   pub own-first : paired own (completion i s ∷ es) ≡ s ∷ paired own es
   own-first = subst (λ (j : ℕ). paired own (completion j s ∷ es) ≡ s ∷ paired own es) (sym mine) (paired-own own s c es e)
 
-  pub was : Open sent (h .bridge) w (completion i s ∷ es) (c .tag)
+  pub was : OpenFine sent (h .bridge) w (completion i s ∷ es) (c .tag)
   was = v .tags (c .tag) .opens m
 
   pub flow-mine : (n a k : ℕ) → Flow sent (completion i s ∷ es) own n a k → Flow sent (completion own s ∷ es) own n a k
@@ -191,12 +196,10 @@ module _ (sent : ℕ → List (List ℕ)) (h : Held) (w : Wire) (es : List Event
         let b = h .bridge in
         let f = flows n next d .after in
         let tm : t < length (b .missing) = entry-below (b .missing) t m in
-        let tp : t < length (b .place) = omega (arith, g .sizes .place, g .sizes .missing) in
+        let tn : t < length (b .next) = omega (arith, g .sizes .next, g .sizes .missing) in
         let e₁ : missingOf x t ≡ missingOf b t - useful c (missingOf b t) = ap (λ (y : List ℕ). getD y t 0) (p .missing) ∙ (getD-set-same (b .missing) t (missingOf b t - n) 0 tm ∙ ap (λ (y : ℕ). missingOf b t - y) (d .amount)) in
-        let e₂ : placeOf x t ≡ placeOf b t + useful c (missingOf b t) = ap (λ (y : List ℕ). getD y t 0) (p .place) ∙ (getD-set-same (b .place) t (placeOf b t + n) 0 tp ∙ ap (λ (y : ℕ). placeOf b t + y) (d .amount)) in
+        let e₂ : nextAddress x t ≡ lowerAddress (nextAddress b t + useful c (missingOf b t)) = ap (λ (y : List ℕ). getD y t 0) (p .next) ∙ (getD-set-same (b .next) t (lowerAddress (nextAddress b t + n)) 0 tn ∙ ap (λ (y : ℕ). lowerAddress (nextAddress b t + y)) (d .amount)) in
         let e₃ : ownerOf x t ≡ ownerOf b t = ap (λ (y : List ℕ). getD y t 0) (p .owner) in
-        let e₄ : getD (x .start) (ownerOf x t) 0 ≡ getD (b .start) (ownerOf b t) 0 = rw (p .start, e₃) in
-        let e₅ : nextAddress x t ≡ nextAddress b t + useful c (missingOf b t) = omega arith in
         record {
           quiet = λ y k. no-way (sym y ∙ (ap (λ (y : ℕ). isSet y t) (p .free) ∙ g .tags t m .used));
           opens = λ y. record {
@@ -206,7 +209,7 @@ module _ (sent : ℕ → List (List ℕ)) (h : Held) (w : Wire) (es : List Event
               whole = line .whole;
               next = line .next + useful c (missingOf b t);
               flow = rw e₁ f;
-              low = low-moves (line .next) (nextAddress b t) (useful c (missingOf b t)) (line .low) ∙ ap (λ (y : ℕ). y % 128) (sym e₅);
+              low = low-moves (line .next) (nextAddress b t) (useful c (missingOf b t)) (line .low) ∙ ap (λ (y : ℕ). y % 128) (sym e₂);
             };
             word = λ k. absurd (omega (arith, o, e₃));
           };

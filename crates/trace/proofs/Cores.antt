@@ -17,17 +17,17 @@ use Rattle.ecam.specs.declared.Registers.{Registers}
 use Rattle.ecam.specs.Registers.{writeBuses, writeDisable, withDecode, cleared, withMask, masked, localWrite}
 use Rattle.parts.specs.declared.ConfigSlot.{ConfigSlot}
 use Rattle.parts.specs.declared.Core.{Core}
-use Rattle.bridge.specs.declared.Bridge.{Bridge}
+use Rattle.machine.specs.Bridge.{Bridge}
 use Rattle.verdict.specs.declared.Cause.the-variants.{UnsupportedRequest, RequestRetry, CompleterAbort, Poison, Timeout}
 use Rattle.verdict.specs.declared.Verdict.{Verdict}
 use Rattle.verdict.specs.declared.Verdict.the-variants.{Unexpected, Good, Poisoned, Failed}
-use Rattle.bridge.specs.State.{tagCount, withRegisters, withConfig, coreIn, raisedCore, freeConfig, missingOf, placeOf, ownerOf, registersOf, shut, freed, slverr}
-use Rattle.bridge.specs.Config.{Access, routeOf, configRefusal, localCore, localBridge}
-use Rattle.bridge.specs.Completions.{configAnswer, configDone, configCompleted, isUnexpected}
-use Rattle.bridge.specs.Take.{stateIn, stateOf, statesIn, takeRefusal, slotFreed}
+use Rattle.machine.specs.State.{tagCount, slotFree, withRegisters, withConfig, freeConfig, coreIn, setState, raisedCore, missingOf, ownerOf, placeOf, Open, shut, freed, slverr, registersOf}
+use Rattle.machine.specs.Config.{Access, routeOf, configRefusal, localCore, localBridge}
+use Rattle.machine.specs.Completions.{configAnswer, configDone, configCompleted, isUnexpected}
+use Rattle.machine.specs.Take.{stateIn, stateOf, takeRefusal, slotFreed}
 use Rattle.bridge_laws.specs.CompletionLaws.{Elsewhere}
-use Rattle.bridge.proofs.Judging.{never}
-use Rattle.bridge.proofs.Configs.{passed}
+use Rattle.machine.proofs.Judging.{never}
+use Rattle.machine.proofs.Configs.{passed}
 use Rattle.trace.specs.Sound.{named, openIn, piecesIn, Sizes}
 use Rattle.trace.proofs.Counts.{named-same, is-named, closed-unnamed, other-unnamed, open-same, open-more}
 use Rattle.trace.proofs.Settling.{TagFits, Fine, core-sizes, state-below, state-config, state-above, state-same, pieces-same, pieces-not, owner-open, tag-below}
@@ -105,17 +105,18 @@ pub record ConfigCloses (t : ℕ) (b y : Bridge) : Type 0 where
   pub sent : y .sent ≡ b .sent
   pub owner : y .owner ≡ b .owner
   pub place : y .place ≡ b .place
+  pub next : y .next ≡ b .next
+  pub kind : y .kind ≡ b .kind
   pub missing : Elsewhere t (b .missing) (y .missing)
   pub missing-size : length (y .missing) ≡ length (b .missing)
   pub gone : missingOf y t ≡ 0
   pub state : y .state ≡ b .state
-  pub start : y .start ≡ b .start
   pub size : y .size ≡ b .size
   pub pieces : y .pieces ≡ b .pieces
   pub fault : y .fault ≡ b .fault
   pub cause : y .cause ≡ b .cause
 
-module _ (t : ℕ) (b y : Bridge) (v : Fine b) (m : missingOf b t ≢ 0) (o : ownerOf b t ≡ 8) (c : ConfigCloses t b y) where
+module _ (t : ℕ) (b y : Bridge) (v : Fine b) (m : Open b t) (o : ownerOf b t ≡ 8) (c : ConfigCloses t b y) where
   owners : (u : ℕ) → ownerOf y u ≡ ownerOf b u
   owners u = ap (λ (l : List ℕ). getD l u 0) (c .owner)
 
@@ -152,8 +153,9 @@ module _ (t : ℕ) (b y : Bridge) (v : Fine b) (m : missingOf b t ≢ 0) (o : ow
       sent = ap length (c .sent) ∙ v .sizes .sent;
       owner = ap length (c .owner) ∙ v .sizes .owner;
       place = ap length (c .place) ∙ v .sizes .place;
+      next = ap length (c .next) ∙ v .sizes .next;
+      kind = ap length (c .kind) ∙ v .sizes .kind;
       state = ap length (c .state) ∙ v .sizes .state;
-      start = ap length (c .start) ∙ v .sizes .start;
       size = ap length (c .size) ∙ v .sizes .size;
       pieces = ap length (c .pieces) ∙ v .sizes .pieces;
       fault = ap length (c .fault) ∙ v .sizes .fault;
@@ -204,11 +206,12 @@ completed-closes t b payload v low l e = record {
   sent = refl;
   owner = refl;
   place = refl;
+  next = refl;
+  kind = refl;
   missing = λ u n. getD-set-other (b .missing) t u 0 0 n;
   missing-size = length-set (b .missing) t 0;
   gone = getD-set-same (b .missing) t 0 0 l;
   state = refl;
-  start = refl;
   size = refl;
   pieces = refl;
   fault = refl;
@@ -228,11 +231,12 @@ late-closes t b l = record {
   sent = refl;
   owner = refl;
   place = refl;
+  next = refl;
+  kind = refl;
   missing = λ u n. getD-set-other (b .missing) t u 0 0 n;
   missing-size = length-set (b .missing) t 0;
   gone = getD-set-same (b .missing) t 0 0 l;
   state = refl;
-  start = refl;
   size = refl;
   pieces = refl;
   fault = refl;
@@ -242,7 +246,7 @@ late-closes t b l = record {
 -- ---- a slot is released
 
 module _ (b : Bridge) (k : ℕ) (v : Fine b) (done : stateOf b k ≡ 2) where
-  low-release : k < 8 → Fine (statesIn (set (b .state) k 0) (b .cause) b)
+  low-release : k < 8 → Fine (setState k slotFree b)
   low-release l = record {
     right = v .right;
     sizes = record {
@@ -250,8 +254,9 @@ module _ (b : Bridge) (k : ℕ) (v : Fine b) (done : stateOf b k ≡ 2) where
       sent = v .sizes .sent;
       owner = v .sizes .owner;
       place = v .sizes .place;
+      next = v .sizes .next;
+      kind = v .sizes .kind;
       state = length-set (b .state) k 0 ∙ v .sizes .state;
-      start = v .sizes .start;
       size = v .sizes .size;
       pieces = v .sizes .pieces;
       fault = v .sizes .fault;
@@ -275,15 +280,15 @@ module _ (b : Bridge) (k : ℕ) (v : Fine b) (done : stateOf b k ≡ 2) where
       not-zero : (j : ℕ) → getD (set (b .state) k 0) j 0 ≢ 0 → j ≢ k
       not-zero j h e = h (ap (λ i. getD (set (b .state) k 0) i 0) e ∙ here)
 
-      count-of : (j : ℕ) → Dec (j ≡ k) → openIn (statesIn (set (b .state) k 0) (b .cause) b) j tagCount ≡ piecesIn (statesIn (set (b .state) k 0) (b .cause) b) j
+      count-of : (j : ℕ) → Dec (j ≡ k) → openIn (setState k slotFree b) j tagCount ≡ piecesIn (setState k slotFree b) j
       count-of j (yes e) =
-          let y = statesIn (set (b .state) k 0) (b .cause) b in
+          let y = setState k slotFree b in
           let n : stateOf y k ≢ 1 = λ g. omega (arith, state-below y k l, here) in
           let n' : stateOf b k ≢ 1 = λ g. omega (arith, done) in
           subst (λ i. openIn y i tagCount ≡ piecesIn y i) (sym e)
           (open-same b y k tagCount (λ u. refl) ∙ v .count k ∙ pieces-not b k n' ∙ sym (pieces-not y k n))
       count-of j (no e) =
-          let y = statesIn (set (b .state) k 0) (b .cause) b in
+          let y = setState k slotFree b in
           open-same b y j tagCount (λ u. refl) ∙ v .count j ∙ sym (pieces-same b y j (state-same b y j (λ g. refl) (λ g. other j e)) refl)
 
   high-release : 8 ≤ k → Fine (coreIn (withConfig freeConfig (b .core)) b)
@@ -297,7 +302,7 @@ module _ (b : Bridge) (k : ℕ) (v : Fine b) (done : stateOf b k ≡ 2) where
           go (yes f) = absurd (omega (arith, state-config b, subst (λ i. stateOf b i ≡ 2) f done))
           go (no f) = absurd (omega (arith, state-above b k (omega arith), done))
 
-  release-by : (z : Bool) → ltb k 8 ≡ z → Fine (cond z (statesIn (set (b .state) k 0) (b .cause) b) (coreIn (withConfig freeConfig (b .core)) b))
+  release-by : (z : Bool) → ltb k 8 ≡ z → Fine (cond z (setState k slotFree b) (coreIn (withConfig freeConfig (b .core)) b))
   release-by true e = low-release (ltb-true k 8 e)
   release-by false e = high-release (ltb-false k 8 e)
 

@@ -8,13 +8,13 @@ use native.Mathlib.Decide.{ℕ-discrete}
 use lib.Dec.{eqb}
 use borrow.Author.Tests.{eqb-true, eqb-false, eq-eqb, ne-eqb, not-true}
 use Rattle.common.proofs.Tests.{and-left, and-right}
-use Rattle.bridge.specs.declared.Bridge.{Bridge}
-use Rattle.bridge.specs.State.{missingOf, ownerOf}
-use Rattle.bridge.proofs.Judging.{never}
+use Rattle.machine.specs.Bridge.{Bridge}
+use Rattle.machine.specs.State.{missingOf, ownerOf, Open}
+use Rattle.machine.proofs.Judging.{never}
 use Rattle.trace.specs.Sound.{named, openIn}
 
 pub record Names (b : Bridge) (k t : ℕ) : Type 0 where
-  pub missing : missingOf b t ≢ 0
+  pub missing : Open b t
   pub owner : ownerOf b t ≡ k
 
 pub named-is : (b : Bridge) (k t : ℕ) → named b k t ≡ true → Names b k t
@@ -23,7 +23,7 @@ named-is b k t e = record {
   owner = eqb-true _ _ (and-right (not (eqb (missingOf b t) 0)) (eqb (ownerOf b t) k) e);
 }
 
-pub is-named : (b : Bridge) (k t : ℕ) → missingOf b t ≢ 0 → ownerOf b t ≡ k → named b k t ≡ true
+pub is-named : (b : Bridge) (k t : ℕ) → Open b t → ownerOf b t ≡ k → named b k t ≡ true
 is-named b k t m o = rw (ne-eqb _ _ m, eq-eqb _ _ o)
 
 pub closed-unnamed : (b : Bridge) (k t : ℕ) → missingOf b t ≡ 0 → named b k t ≡ false

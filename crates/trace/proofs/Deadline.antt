@@ -10,17 +10,17 @@ use Rattle.burst.specs.declared.Burst.{Burst}
 use Rattle.ecam.specs.declared.Route.{Route}
 use Rattle.ecam.specs.declared.Route.the-variants.{OutOfRange, Local, Type0, Type1, NotRouted, DeviceNotZero}
 use Rattle.ecam.specs.Route.{numberOf}
-use Rattle.bridge.specs.declared.Bridge.{Bridge}
+use Rattle.machine.specs.Bridge.{Bridge}
 use Rattle.parts.specs.declared.ConfigSlot.{ConfigSlot}
-use Rattle.bridge.specs.State.{freeSlot}
-use Rattle.bridge.specs.Memory.{piecesOf, readRefusal, readBridge, readStep}
-use Rattle.bridge.specs.Config.{Access, routeOf, configRefusal, localCore, localBridge, routedBridge, configBridge, configStep}
-use Rattle.bridge.specs.Completions.{Held}
-use Rattle.bridge.specs.Take.{stateOf}
-use Rattle.bridge.proofs.Refusals.{read-ok}
+use Rattle.machine.specs.State.{freeSlot}
+use Rattle.machine.specs.Memory.{piecesOf, readRefusal, readBridge, readStep}
+use Rattle.machine.specs.Config.{Access, routeOf, configRefusal, localCore, localBridge, routedBridge, configBridge, configStep, wordPending, configClaimed}
+use Rattle.machine.specs.Completions.{Held}
+use Rattle.machine.specs.Take.{stateOf}
+use Rattle.machine.proofs.Refusals.{read-ok}
 use Rattle.bridge_laws.proofs.Kept.{accepted-read-keeps}
 use Rattle.bridge_laws.proofs.Stored.{accepted-read-opens}
-use Rattle.bridge.proofs.Configs.{passed}
+use Rattle.machine.proofs.Configs.{passed}
 use Rattle.trace.specs.Events as event
 use Rattle.trace.specs.Events.{Event, step, run, start}
 use Rattle.trace.specs.Claims.{Answered, Until, ticks, ReadDeadline, ConfigDeadline}
@@ -30,7 +30,7 @@ use Rattle.trace.proofs.Opened.{tables-of}
 use Rattle.trace.proofs.Sound.{sound-step, run-sound}
 use Rattle.trace.proofs.DeadlineOpens.{Older, Newly, Read}
 use Rattle.trace.proofs.DeadlineMoves.{OpenFor}
-use Rattle.trace.proofs.DeadlineSteps.{older-open, read-view, read-free, config-free, claimedConfig, routed-view, routed-keeps}
+use Rattle.trace.proofs.DeadlineSteps.{older-open, read-view, read-free, config-free, routed-view, routed-keeps}
 use Rattle.trace.proofs.DeadlineAges.{none-open, Since, early, Waits, finished-answered, already, answers}
 
 sent-now : (s now : ℕ) → s ≡ now → now < 4294967296 → (s + 0) % 4294967296 ≡ now
@@ -96,7 +96,7 @@ pub routed-opens : (b : Bridge) (a : Access) → stateOf (routedBridge b a) 8 �
 routed-opens b a = state-config (routedBridge b a) ∙ ap (λ (c : ConfigSlot). c .state) (routed-keeps b a .config)
 
 pub routed-newer : (h : Held) (a : Access) (room : ℕ) → Sound h → configRefusal (h .bridge) a room ≡ 0 → (t : ℕ) → OpenFor (routedBridge (h .bridge) a) 8 t
-    → Newly 8 0 4 (claimedConfig (h .bridge) a) (routedBridge (h .bridge) a) t
+    → Newly (wordPending (a .write)) (configClaimed a (h .bridge)) (routedBridge (h .bridge) a) t
 routed-newer h a room v e t o = by (routed-view b a (v .sizes) t (o .0))
   where
     b : Bridge
@@ -105,8 +105,8 @@ routed-newer h a room v e t o = by (routed-view b a (v .sizes) t (o .0))
     x : Bridge
     x = routedBridge b a
 
-    by : Older (claimedConfig b a) x t ⊎ Newly 8 0 4 (claimedConfig b a) x t → Newly 8 0 4 (claimedConfig b a) x t
-    by (inl p) = absurd (none-open h 8 t v (config-free b a room e) (older-open (claimedConfig b a) x 8 t p o))
+    by : Older (configClaimed a b) x t ⊎ Newly (wordPending (a .write)) (configClaimed a b) x t → Newly (wordPending (a .write)) (configClaimed a b) x t
+    by (inl p) = absurd (none-open h 8 t v (config-free b a room e) (older-open (configClaimed a b) x 8 t p o))
     by (inr p) = p
 
 pub routed-since : (h : Held) (a : Access) (room : ℕ) → Sound h → configRefusal (h .bridge) a room ≡ 0 → Since (routedBridge (h .bridge) a) 8 0

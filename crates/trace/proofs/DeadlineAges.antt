@@ -9,10 +9,10 @@ use lib.ListN.{getD}
 use lib.Dec.{ltb}
 use borrow.Author.Tests.{eq-eqb, le-ltb, ltb-true}
 use Rattle.address.specs.declared.Settings.{Settings}
-use Rattle.bridge.specs.declared.Bridge.{Bridge}
-use Rattle.bridge.specs.State.{tagCount}
-use Rattle.bridge.specs.Completions.{Held}
-use Rattle.bridge.specs.Take.{stateOf, takeNumber}
+use Rattle.machine.specs.Bridge.{Bridge}
+use Rattle.machine.specs.State.{tagCount}
+use Rattle.machine.specs.Completions.{Held}
+use Rattle.machine.specs.Take.{stateOf, takeNumber}
 use Rattle.trace.specs.Events.{Event, step}
 use Rattle.trace.specs.Claims.{Answered, Until, isTick, ticks}
 use Rattle.trace.specs.Sound.{piecesIn, Sound}

@@ -12,16 +12,16 @@ use borrow.Author.Tests.{eq-eqb}
 use Rattle.common.proofs.Tests.{and-left}
 use Rattle.parts.specs.declared.Core.{Core}
 use Rattle.parts.specs.declared.ConfigSlot.{ConfigSlot}
-use Rattle.bridge.specs.declared.Bridge.{Bridge}
+use Rattle.machine.specs.Bridge.{Bridge}
 use Rattle.verdict.specs.declared.Cause.the-variants.{UnsupportedRequest, RequestRetry, CompleterAbort, Poison, Timeout}
 use Rattle.verdict.specs.declared.Verdict.{Verdict}
 use Rattle.verdict.specs.declared.Verdict.the-variants.{Unexpected, Good, Poisoned, Failed}
-use Rattle.bridge.specs.State.{tagCount, withTicks, withConfig, coreIn, slotsIn, raisedCore, missingOf, placeOf, ownerOf, isOpen, shut, freed, okay, slverr}
-use Rattle.bridge.specs.Completions.{Held, held, zeroed, sizeOf, failed, pieceClosed, configDone, configAnswer, configCompleted, isUnexpected}
-use Rattle.bridge.specs.Ticks.{nextTick, ageOf, isOld, timedOut, expire, expireTo, linkLost, dropSlot, dropSlots, dropConfig}
-use Rattle.bridge.specs.Take.{stateIn, stateOf, takeRefusal, slotFreed, releaseStep}
+use Rattle.machine.specs.State.{tagCount, slotFinished, withTicks, withConfig, coreIn, setState, setPieces, setCause, raisedCore, missingOf, ownerOf, placeOf, isOpen, Open, shut, freed, okay, slverr}
+use Rattle.machine.specs.Completions.{Held, held, zeroed, sizeOf, failed, pieceClosed, configDone, configAnswer, configCompleted, isUnexpected}
+use Rattle.machine.specs.Ticks.{nextTick, ageOf, isOld, timedOut, expire, expireTo, linkLost, dropSlot, dropSlots, dropConfig}
+use Rattle.machine.specs.Take.{stateIn, stateOf, takeRefusal, slotFreed, releaseStep}
 use Rattle.bridge_laws.specs.ConfigLaws.{Released}
-use Rattle.bridge.proofs.Judging.{never}
+use Rattle.machine.proofs.Judging.{never}
 use Rattle.bridge_laws.proofs.TakeLaws.{release-frees}
 use Rattle.trace.specs.Events as event
 use Rattle.trace.specs.Events.{Event}
@@ -33,7 +33,7 @@ use Rattle.trace.proofs.DeadlineTables.{Busy, set-busy, Moved, failed-m
 
 -- tag t is open for slot k
 abbrev pub OpenFor : Bridge → ℕ → ℕ → Type 0
-OpenFor b k t = (missingOf b t ≢ 0) × (ownerOf b t ≡ k)
+OpenFor b k t = Open b t × (ownerOf b t ≡ k)
 
 pub record Goes (k : ℕ) (b x : Bridge) : Type 0 where
   pub state : Busy (stateOf b k) → Busy (stateOf x k)
@@ -101,7 +101,7 @@ module _ (k : ℕ) where
   pub goes-same : (b : Bridge) → Goes k b b
   goes-same b = goes-core b (b .core) (λ h. h) refl
 
-  pub goes-moved : (j t : ℕ) (b x : Bridge) → Moved j t b x → missingOf b t ≢ 0 → Goes k b x
+  pub goes-moved : (j t : ℕ) (b x : Bridge) → Moved j t b x → Open b t → Goes k b x
   goes-moved j t b x p o = record {
     state = state-goes k (b .core .config .state) (x .core .config .state) (b .state) (x .state) (λ h. subst (λ (c : ConfigSlot). Busy (c .state)) (sym (p .config)) h) (p .busy k);
     tags = λ u q. ((was u (q .0) (ℕ-discrete u t), sym (ap (λ (l : List ℕ). getD l u 0) (p .owner)) ∙ q .1), ap (λ (l : List ℕ). getD l u 0) (p .sent));
@@ -109,7 +109,7 @@ module _ (k : ℕ) where
     ticks = p .ticks;
   }
     where
-      was : (u : ℕ) → missingOf x u ≢ 0 → Dec (u ≡ t) → missingOf b u ≢ 0
+      was : (u : ℕ) → Open x u → Dec (u ≡ t) → Open b u
       was u q (yes e) = λ z. o (ap (missingOf b) (sym e) ∙ z)
       was u q (no e) = λ z. q (p .missing u e ∙ z)
 
@@ -133,7 +133,7 @@ answer-done c payload (Failed CompleterAbort) e = refl
 answer-done c payload (Failed Poison) e = refl
 answer-done c payload (Failed Timeout) e = refl
 
-pub config-goes : (k : ℕ) (b : Bridge) (t : ℕ) (payload : List ℕ) (v : Verdict) → missingOf b t ≢ 0 → isUnexpected v ≡ false → Goes k b (configCompleted b t payload v)
+pub config-goes : (k : ℕ) (b : Bridge) (t : ℕ) (payload : List ℕ) (v : Verdict) → Open b t → isUnexpected v ≡ false → Goes k b (configCompleted b t payload v)
 unfolding configCompleted
 config-goes k b t payload v o u =
     let c = withConfig (configAnswer (b .core .config) payload v) (b .core) in
@@ -143,7 +143,7 @@ config-goes k b t payload v o u =
 
 -- ---- ticks
 
-timed-goes : (k : ℕ) (h : Held) (t : ℕ) → missingOf (h .bridge) t ≢ 0 → (z : Bool) → ltb (ownerOf (h .bridge) t) 8 ≡ z → Goes k (h .bridge) (timedOut t h .bridge)
+timed-goes : (k : ℕ) (h : Held) (t : ℕ) → Open (h .bridge) t → (z : Bool) → ltb (ownerOf (h .bridge) t) 8 ≡ z → Goes k (h .bridge) (timedOut t h .bridge)
 unfolding timedOut raisedCore
 timed-goes k h t o true z =
     let b = h .bridge in
@@ -196,7 +196,7 @@ lost-goes k b = record {
 }
 
 abbrev dropped : ℕ → Bridge → Bridge
-dropped n b = slotsIn (set (b .state) n 2) (b .start) (b .size) (set (b .pieces) n 0) (b .fault) (set (b .cause) n slverr) b
+dropped n b = (setState n slotFinished (setPieces n 0 (setCause n slverr b)))
 
 drop-goes : (k : ℕ) (h : Held) (n : ℕ) → Goes k (h .bridge) (dropSlot h n .bridge)
 unfolding dropSlot

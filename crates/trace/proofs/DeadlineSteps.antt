@@ -1,21 +1,21 @@
 -- What a read and a configuration access leave of another open access; and so of every event.
 use Prim.Native.Nat.{ℕ, _%_}
 use mathlib.Core.Path.{_≡_, refl, sym, ap, _∙_, subst}
-use mathlib.Core.Logic.{_⊎_, inl, inr, _≢_}
+use mathlib.Core.Logic.{_⊎_, inl, inr}
 use mathlib.Core.List.{List}
 use lib.ListN.{length, getD, drop}
 use Rattle.burst.specs.declared.Burst.{Burst}
 use Rattle.parts.specs.declared.ConfigSlot.{ConfigSlot}
-use Rattle.bridge.specs.declared.Bridge.{Bridge}
-use Rattle.bridge.specs.State.{tagCount, withRegisters, withConfig, coreIn, missingOf, ownerOf, opened, okay, freeSlot}
-use Rattle.bridge.specs.Memory.{piecesOf, readRefusal, claimed, readBridge}
-use Rattle.bridge.specs.Config.{Access, routeOf, configRefusal, localCore, localBridge, routedBridge}
-use Rattle.bridge.specs.Completions.{Held, held}
-use Rattle.bridge.specs.Ticks.{linkIn, linkLost}
-use Rattle.bridge.specs.Take.{stateOf}
-use Rattle.bridge.proofs.Refusals.{ReadOk, read-ok}
+use Rattle.machine.specs.Bridge.{Bridge}
+use Rattle.machine.specs.State.{tagCount, withRegisters, coreIn, ownerOf, Open, opened, freeSlot}
+use Rattle.machine.specs.Memory.{piecesOf, readRefusal, claimed, readBridge}
+use Rattle.machine.specs.Config.{Access, routeOf, configRefusal, localCore, localBridge, routedBridge, configClaimed, wordPending}
+use Rattle.machine.specs.Completions.{Held, held}
+use Rattle.machine.specs.Ticks.{linkIn, linkLost}
+use Rattle.machine.specs.Take.{stateOf}
+use Rattle.machine.proofs.Refusals.{ReadOk, read-ok}
 use Rattle.bridge_laws.proofs.Kept.{accepted-read-keeps}
-use Rattle.bridge.proofs.Configs.{passed}
+use Rattle.machine.proofs.Configs.{passed}
 use Rattle.trace.specs.Events as event
 use Rattle.trace.specs.Events.{Event}
 use Rattle.trace.specs.Sound.{Sizes}
@@ -28,16 +28,23 @@ use Rattle.trace.proofs.DeadlineOpens.{Even, Older, Newly, opened-tags,
 use Rattle.trace.proofs.DeadlineMoves.{OpenFor, Goes, timed, beat, still-timed, state-goes, goes-then, goes-core, goes-moved, open-some, config-goes, expire-all, lost-goes, drops-goes, release-goes}
 
 pub even : (b : Bridge) → Sizes b → Even b
-even b s = record { sent = s .sent ∙ sym (s .missing); owner = s .owner ∙ sym (s .missing); place = s .place ∙ sym (s .missing) }
+even b s =
+    record {
+      sent = s .sent ∙ sym (s .missing);
+      owner = s .owner ∙ sym (s .missing);
+      place = s .place ∙ sym (s .missing);
+      next = s .next ∙ sym (s .missing);
+      kind = s .kind ∙ sym (s .missing);
+    }
 
 pub older-open : (b x : Bridge) (k t : ℕ) → Older b x t → OpenFor x k t → OpenFor b k t
 older-open b x k t p o = (λ z. o .0 (p .missing ∙ z), sym (p .owner) ∙ o .1)
 
 -- an open tag after an accepted read
-pub read-view : (b : Bridge) (q : Burst) (room : ℕ) → Sizes b → readRefusal b q room ≡ 0 → (t : ℕ) → missingOf (readBridge b q) t ≢ 0
+pub read-view : (b : Bridge) (q : Burst) (room : ℕ) → Sizes b → readRefusal b q room ≡ 0 → (t : ℕ) → Open (readBridge b q) t
     → Older b (readBridge b q) t ⊎ Read (freeSlot b) q b (readBridge b q) (piecesOf (b .settings .reads) q) t
 unfolding claimed
-read-view b q room s e t o = by (read-tags (freeSlot b) q c (k .tags) (record { sent = v .sent; owner = v .owner; place = v .place }) n (k .tags) t o)
+read-view b q room s e t o = by (read-tags (freeSlot b) q c (k .tags) (record { sent = v .sent; owner = v .owner; place = v .place; next = v .next; kind = v .kind }) n (k .tags) t o)
   where
     k : ReadOk b q room
     k = read-ok b q room e
@@ -52,8 +59,8 @@ read-view b q room s e t o = by (read-tags (freeSlot b) q c (k .tags) (record { 
     n = piecesOf (b .settings .reads) q
 
     by : Older c (readBridge b q) t ⊎ Read (freeSlot b) q c (readBridge b q) n t → Older b (readBridge b q) t ⊎ Read (freeSlot b) q b (readBridge b q) n t
-    by (inl p) = inl (record { missing = p .missing; sent = p .sent; owner = p .owner; place = p .place })
-    by (inr p) = inr (record { index = p .index; below = p .below; tag = p .tag; missing = p .missing; sent = p .sent; owner = p .owner; place = p .place })
+    by (inl p) = inl (record { missing = p .missing; sent = p .sent; owner = p .owner; place = p .place; next = p .next; kind = p .kind })
+    by (inr p) = inr (record { index = p .index; below = p .below; tag = p .tag; missing = p .missing; sent = p .sent; owner = p .owner; place = p .place; next = p .next; kind = p .kind })
 
 -- the slot of an accepted read was free
 pub read-free : (b : Bridge) (q : Burst) (room : ℕ) → Sizes b → readRefusal b q room ≡ 0 → stateOf b (freeSlot b) ≡ 0
@@ -90,16 +97,13 @@ unfolding localCore
 local-goes k b a w = goes-core k b (localCore (b .core) a w) (λ h. inr refl) refl
 
 -- an access that goes out opens one tag
-abbrev pub claimedConfig : Bridge → Access → Bridge
-claimedConfig b a = coreIn (withConfig (record { state = 1; write = a .write; response = okay; word = 0 }) (b .core)) b
-
-pub routed-view : (b : Bridge) (a : Access) → Sizes b → (t : ℕ) → missingOf (routedBridge b a) t ≢ 0
-    → Older (claimedConfig b a) (routedBridge b a) t ⊎ Newly 8 0 4 (claimedConfig b a) (routedBridge b a) t
+pub routed-view : (b : Bridge) (a : Access) → Sizes b → (t : ℕ) → Open (routedBridge b a) t
+    → Older (configClaimed a b) (routedBridge b a) t ⊎ Newly (wordPending (a .write)) (configClaimed a b) (routedBridge b a) t
 unfolding routedBridge
-routed-view b a s t o = let v = even b s in opened-tags 8 0 4 (claimedConfig b a) (record { sent = v .sent; owner = v .owner; place = v .place }) t o
+routed-view b a s t o = let v = even b s in opened-tags (wordPending (a .write)) (configClaimed a b) (record { sent = v .sent; owner = v .owner; place = v .place; next = v .next; kind = v .kind }) t o
 
 pub record RoutedKeeps (b : Bridge) (a : Access) (x : Bridge) : Type 0 where
-  pub config : x .core .config ≡ claimedConfig b a .core .config
+  pub config : x .core .config ≡ configClaimed a b .core .config
   pub state : x .state ≡ b .state
   pub cause : x .cause ≡ b .cause
   pub settings : x .settings ≡ b .settings
@@ -116,8 +120,8 @@ module _ (k : ℕ) (b : Bridge) (a : Access) (room : ℕ) (s : Sizes b) (e : con
   pub routed-older : (t : ℕ) → OpenFor (routedBridge b a) k t → Older b (routedBridge b a) t
   routed-older t r = by (routed-view b a s t (r .0))
     where
-      by : Older (claimedConfig b a) (routedBridge b a) t ⊎ Newly 8 0 4 (claimedConfig b a) (routedBridge b a) t → Older b (routedBridge b a) t
-      by (inl p) = record { missing = p .missing; sent = p .sent; owner = p .owner; place = p .place }
+      by : Older (configClaimed a b) (routedBridge b a) t ⊎ Newly (wordPending (a .write)) (configClaimed a b) (routedBridge b a) t → Older b (routedBridge b a) t
+      by (inl p) = record { missing = p .missing; sent = p .sent; owner = p .owner; place = p .place; next = p .next; kind = p .kind }
       by (inr p) = absurd (not-config (sym (r .1) ∙ p .owner))
 
   routed-goes : Goes k b (routedBridge b a)

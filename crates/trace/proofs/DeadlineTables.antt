@@ -1,4 +1,4 @@
--- What the verbs on tags and slots leave of an access: a slot that is open or finished stays so, and tables change at one place.
+-- What the verbs on tags and slots leave of an access: a slot that is open or finished stays so, and columns change at one place.
 use Prim.Native.Nat.{ℕ, zero, suc, _+_, _-_, _*_}
 use mathlib.Core.Path.{_≡_, refl, _∙_}
 use mathlib.Core.Logic.{_⊎_, inr}
@@ -8,14 +8,15 @@ use lib.ListN.{getD, set}
 use lib.Seq.{paste, getD-set-other}
 use lib.Dec.{ltb, leb}
 use Rattle.parts.specs.declared.Core.{Core}
-use Rattle.bridge.specs.declared.Bridge.{Bridge}
+use Rattle.burst.specs.Words.{lowerAddress}
+use Rattle.machine.specs.Bridge.{Bridge}
 use Rattle.verdict.specs.declared.Cause.{Cause}
 use Rattle.verdict.specs.declared.Cause.the-variants.{Poison}
 use Rattle.verdict.specs.declared.Verdict.{Verdict}
 use Rattle.verdict.specs.declared.Verdict.the-variants.{Unexpected, Good, Poisoned, Failed}
-use Rattle.bridge.specs.State.{bridgeOf, coreIn, slotsIn, raisedCore, raise, missingOf, placeOf, counted, shut, freed}
-use Rattle.bridge.specs.Verdict.{causeBit, causeResponse}
-use Rattle.bridge.specs.Completions.{Held, held, faulted, failed, finished, pieceClosed, closed, advanced, usefulBytes, memoryCompleted}
+use Rattle.machine.specs.State.{coreIn, putMissing, putPlace, putNext, putState, putPieces, putFault, putCause, setPieces, setFault, setCause, raisedCore, raise, missingOf, placeOf, nextAddress, counted, shut, freed}
+use Rattle.machine.specs.Verdict.{causeBit, causeResponse}
+use Rattle.machine.specs.Completions.{Held, held, faulted, failed, finished, pieceClosed, closed, advanced, usefulBytes, memoryCompleted}
 use Rattle.bridge_laws.specs.CompletionLaws.{Elsewhere}
 
 -- a slot is open or finished
@@ -36,9 +37,10 @@ pub record Moved (k t : ℕ) (b x : Bridge) : Type 0 where
   pub config : x .core .config ≡ b .core .config
   pub sent : x .sent ≡ b .sent
   pub owner : x .owner ≡ b .owner
-  pub start : x .start ≡ b .start
+  pub kind : x .kind ≡ b .kind
   pub missing : Elsewhere t (b .missing) (x .missing)
   pub place : Elsewhere t (b .place) (x .place)
+  pub next : Elsewhere t (b .next) (x .next)
   pub busy : (j : ℕ) → Busy (getD (b .state) j 0) → Busy (getD (x .state) j 0)
   pub state : Elsewhere k (b .state) (x .state)
   pub cause : Elsewhere k (b .cause) (x .cause)
@@ -50,7 +52,7 @@ at-set : (t : ℕ) (l : List ℕ) (x : ℕ) → Elsewhere t l (set l t x)
 at-set t l x u n = getD-set-other l t u x 0 n
 
 module _ (k t : ℕ) where
-  -- the core, and tables that no access looks at
+  -- the core, and columns that no access looks at
   pub moved-core : (b : Bridge) (c : Core) → c .ticks ≡ b .core .ticks → c .config ≡ b .core .config → Moved k t b (coreIn c b)
   moved-core b c x y = record {
     settings = refl;
@@ -58,9 +60,10 @@ module _ (k t : ℕ) where
     config = y;
     sent = refl;
     owner = refl;
-    start = refl;
+    kind = refl;
     missing = at-same t (b .missing);
     place = at-same t (b .place);
+    next = at-same t (b .next);
     busy = λ j h. h;
     state = at-same k (b .state);
     cause = at-same k (b .cause);
@@ -76,43 +79,46 @@ module _ (k t : ℕ) where
     config = q .config ∙ p .config;
     sent = q .sent ∙ p .sent;
     owner = q .owner ∙ p .owner;
-    start = q .start ∙ p .start;
+    kind = q .kind ∙ p .kind;
     missing = λ u n. q .missing u n ∙ p .missing u n;
     place = λ u n. q .place u n ∙ p .place u n;
+    next = λ u n. q .next u n ∙ p .next u n;
     busy = λ j h. q .busy j (p .busy j h);
     state = λ u n. q .state u n ∙ p .state u n;
     cause = λ u n. q .cause u n ∙ p .cause u n;
   }
 
-  -- the tables by tag
-  tags-moved : (b : Bridge) (m p : List ℕ) → Elsewhere t (b .missing) m → Elsewhere t (b .place) p
-      → Moved k t b (bridgeOf (b .settings) (b .core) m (b .sent) (b .owner) p (b .state) (b .start) (b .size) (b .pieces) (b .fault) (b .cause))
-  tags-moved b m p x y = record {
+  -- the columns by tag
+  tags-moved : (b : Bridge) (m p n : List ℕ) → Elsewhere t (b .missing) m → Elsewhere t (b .place) p → Elsewhere t (b .next) n
+      → Moved k t b (putMissing m (putPlace p (putNext n b)))
+  tags-moved b m p n x y z = record {
     settings = refl;
     ticks = refl;
     config = refl;
     sent = refl;
     owner = refl;
-    start = refl;
+    kind = refl;
     missing = x;
     place = y;
+    next = z;
     busy = λ j h. h;
     state = at-same k (b .state);
     cause = at-same k (b .cause);
   }
 
-  -- the tables by slot
+  -- the columns by slot
   slots-moved : (b : Bridge) (st q f e : List ℕ) → ((j : ℕ) → Busy (getD (b .state) j 0) → Busy (getD st j 0)) → Elsewhere k (b .state) st → Elsewhere k (b .cause) e
-      → Moved k t b (slotsIn st (b .start) (b .size) q f e b)
+      → Moved k t b (putState st (putPieces q (putFault f (putCause e b))))
   slots-moved b st q f e x y z = record {
     settings = refl;
     ticks = refl;
     config = refl;
     sent = refl;
     owner = refl;
-    start = refl;
+    kind = refl;
     missing = at-same t (b .missing);
     place = at-same t (b .place);
+    next = at-same t (b .next);
     busy = x;
     state = y;
     cause = z;
@@ -129,7 +135,7 @@ module _ (k t : ℕ) where
   faulted-moved : (b : Bridge) (place code : ℕ) → Moved k t b (faulted k place code b)
   unfolding faulted
   faulted-moved b place code =
-      either (ltb place (getD (b .fault) k 0)) b (slotsIn (b .state) (b .start) (b .size) (b .pieces) (set (b .fault) k place) (set (b .cause) k code) b) b
+      either (ltb place (getD (b .fault) k 0)) b (setFault k place (setCause k code b)) b
       (slots-moved b (b .state) (b .pieces) (set (b .fault) k place) (set (b .cause) k code) (λ j h. h) (at-same k (b .state)) (at-set k (b .cause) code)) (moved-same b)
 
   pub failed-moved : (b : Bridge) (place : ℕ) (why : Cause) → Moved k t b (failed k place why b)
@@ -140,11 +146,13 @@ module _ (k t : ℕ) where
 
   counted-moved : (b : Bridge) (n : ℕ) → Moved k t b (counted t n b)
   unfolding counted
-  counted-moved b n = tags-moved b (set (b .missing) t (missingOf b t - n)) (set (b .place) t (placeOf b t + n)) (at-set t (b .missing) (missingOf b t - n)) (at-set t (b .place) (placeOf b t + n))
+  counted-moved b n =
+      let a = lowerAddress (nextAddress b t + n) in
+      tags-moved b (set (b .missing) t (missingOf b t - n)) (set (b .place) t (placeOf b t + n)) (set (b .next) t a) (at-set t (b .missing) (missingOf b t - n)) (at-set t (b .place) (placeOf b t + n)) (at-set t (b .next) a)
 
   pub shut-moved : (b : Bridge) → Moved k t b (shut t b)
   unfolding shut
-  shut-moved b = tags-moved b (set (b .missing) t 0) (b .place) (at-set t (b .missing) 0) (at-same t (b .place))
+  shut-moved b = tags-moved b (set (b .missing) t 0) (b .place) (b .next) (at-set t (b .missing) 0) (at-same t (b .place)) (at-same t (b .next))
 
   pub freed-moved : (b : Bridge) → Moved k t b (freed t b)
   unfolding freed
@@ -159,7 +167,7 @@ module _ (k t : ℕ) where
   piece-moved h =
       let b = h .bridge in
       held-either (leb (getD (b .pieces) k 0) 1) b (finished k h)
-      (held (slotsIn (b .state) (b .start) (b .size) (set (b .pieces) k (getD (b .pieces) k 0 - 1)) (b .fault) (b .cause) b) (h .store))
+      (held (setPieces k (getD (b .pieces) k 0 - 1) b) (h .store))
       (slots-moved b (set (b .state) k 2) (set (b .pieces) k 0) (b .fault) (b .cause) (λ j h. set-busy (b .state) k j h) (at-set k (b .state) 2) (at-same k (b .cause)))
       (slots-moved b (b .state) (set (b .pieces) k (getD (b .pieces) k 0 - 1)) (b .fault) (b .cause) (λ j h. h) (at-same k (b .state)) (at-same k (b .cause)))
 

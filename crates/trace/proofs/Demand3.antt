@@ -2,7 +2,7 @@
 use Prim.Native.Nat.{ℕ}
 use mathlib.Core.Path.{_≡_}
 use mathlib.Core.List.{List}
-use Rattle.bridge.specs.Take.{looked}
+use Rattle.machine.specs.Take.{looked}
 use Rattle.trace.specs.Events.{Event, seen}
 use Rattle.trace.specs.Claims.{Demand3}
 use Rattle.trace.specs.Example.{tenBytes}

@@ -12,15 +12,15 @@ use lib.Dec.{ltb, leb, eqb}
 use borrow.Author.Tests.{eqb-true, eqb-false}
 use Rattle.address.specs.Settings.{settingsNumber}
 use Rattle.parts.specs.declared.ConfigSlot.{ConfigSlot}
-use Rattle.bridge.specs.declared.Bridge.{Bridge}
-use Rattle.bridge.specs.State.{tagCount, slotsIn, missingOf, registersOf, raisedCore, slverr}
-use Rattle.bridge.specs.Completions.{storeSize, Held, held, zeroed, sizeOf, configDone}
-use Rattle.bridge.specs.Ticks.{linkLost, dropConfig, dropSlot, dropSlots}
-use Rattle.bridge.specs.Take.{stateIn, stateOf}
+use Rattle.machine.specs.Bridge.{Bridge}
+use Rattle.machine.specs.State.{tagCount, slotFinished, setState, setPieces, setCause, raisedCore, missingOf, slverr, registersOf}
+use Rattle.machine.specs.Completions.{storeSize, Held, held, zeroed, sizeOf, configDone}
+use Rattle.machine.specs.Ticks.{linkLost, dropConfig, dropSlot, dropSlots}
+use Rattle.machine.specs.Take.{stateIn, stateOf}
 use Rattle.trace.specs.Sound.{named, openIn, piecesIn, Sizes}
 use Rattle.trace.proofs.Counts.{closed-unnamed, open-found}
 use Rattle.trace.proofs.Settling.{Fine, state-below, state-config, state-above, pieces-not}
-use Rattle.bridge.proofs.Judging.{never}
+use Rattle.machine.proofs.Judging.{never}
 
 -- zeroing a slot keeps the store's length
 pub zeroed-room : (k n : ℕ) (store : List ℕ) → k < 8 → n ≤ 4096 → storeSize ≤ length store → length (zeroed k n store) ≡ length store
@@ -35,7 +35,8 @@ pub record Dropped (n : ℕ) (h x : Held) : Type 0 where
   pub sent : x .bridge .sent ≡ h .bridge .sent
   pub owner : x .bridge .owner ≡ h .bridge .owner
   pub place : x .bridge .place ≡ h .bridge .place
-  pub start : x .bridge .start ≡ h .bridge .start
+  pub next : x .bridge .next ≡ h .bridge .next
+  pub kind : x .bridge .kind ≡ h .bridge .kind
   pub size : x .bridge .size ≡ h .bridge .size
   pub fault : x .bridge .fault ≡ h .bridge .fault
   pub state-size : length (x .bridge .state) ≡ length (h .bridge .state)
@@ -54,7 +55,8 @@ dropped-none h = record {
   sent = refl;
   owner = refl;
   place = refl;
-  start = refl;
+  next = refl;
+  kind = refl;
   size = refl;
   fault = refl;
   state-size = refl;
@@ -71,7 +73,7 @@ module _ (n : ℕ) (h x : Held) (d : Dropped n h x) (low : n < 8) (states : leng
       → Dropped (suc n) h
       (cond z
       (held
-      (slotsIn (set (x .bridge .state) n 2) (x .bridge .start) (x .bridge .size) (set (x .bridge .pieces) n 0) (x .bridge .fault) (set (x .bridge .cause) n slverr) (x .bridge))
+      (setState n slotFinished (setPieces n 0 (setCause n slverr (x .bridge))))
       (zeroed n (sizeOf (x .bridge) n) (x .store)))
       x)
   step-by true e = record {
@@ -81,7 +83,8 @@ module _ (n : ℕ) (h x : Held) (d : Dropped n h x) (low : n < 8) (states : leng
     sent = d .sent;
     owner = d .owner;
     place = d .place;
-    start = d .start;
+    next = d .next;
+    kind = d .kind;
     size = d .size;
     fault = d .fault;
     state-size = length-set (x .bridge .state) n 2 ∙ d .state-size;
@@ -110,7 +113,8 @@ module _ (n : ℕ) (h x : Held) (d : Dropped n h x) (low : n < 8) (states : leng
     sent = d .sent;
     owner = d .owner;
     place = d .place;
-    start = d .start;
+    next = d .next;
+    kind = d .kind;
     size = d .size;
     fault = d .fault;
     state-size = d .state-size;
@@ -212,8 +216,9 @@ module _ (h : Held) (v : Fine (h .bridge)) (long : storeSize ≤ length (h .stor
     sent = v .sizes .sent;
     owner = v .sizes .owner;
     place = v .sizes .place;
+    next = v .sizes .next;
+    kind = v .sizes .kind;
     state = v .sizes .state;
-    start = v .sizes .start;
     size = v .sizes .size;
     pieces = v .sizes .pieces;
     fault = v .sizes .fault;
@@ -242,8 +247,9 @@ module _ (h : Held) (v : Fine (h .bridge)) (long : storeSize ≤ length (h .stor
           sent = ap length (d .sent) ∙ lost-sizes .sent;
           owner = ap length (d .owner) ∙ lost-sizes .owner;
           place = ap length (d .place) ∙ lost-sizes .place;
+          next = ap length (d .next) ∙ lost-sizes .next;
+          kind = ap length (d .kind) ∙ lost-sizes .kind;
           state = d .state-size ∙ lost-sizes .state;
-          start = ap length (d .start) ∙ lost-sizes .start;
           size = ap length (d .size) ∙ lost-sizes .size;
           pieces = d .pieces-size ∙ lost-sizes .pieces;
           fault = ap length (d .fault) ∙ lost-sizes .fault;

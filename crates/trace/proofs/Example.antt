@@ -16,13 +16,13 @@ use Rattle.burst.specs.Pieces.{pieceCount, pieceFirst, pieceEnd, pieceAt, addre
 use Rattle.ecam.specs.Registers.{some, decodeBits, isDecodeBit, byte, strobe, numbered, writeBuses, localWrite, raised, fresh}
 use Rattle.ecam.specs.Route.{route}
 use Rattle.ecam.specs.Request.{dataWord}
-use Rattle.bridge.specs.State.{registersOf, raisedCore, opened, counted, shut, freed, freeSlotFrom, responseOf, refusalResponse, refusalChange, refusal, accepted, refused, freshCore, freshBridge, newBridge}
-use Rattle.bridge.specs.Memory.{pcieOf, readRefusal, claimed, readTo, readStep}
-use Rattle.bridge.specs.Config.{configNumber, localCore, routedBridge, configStep}
-use Rattle.bridge.specs.Verdict.{memoryVerdict, configVerdict}
-use Rattle.bridge.specs.Completions.{faulted, failed, finished, pieceClosed, advanced, memoryCompleted, configAnswer, configCompleted, verdictOf, completionOf, completeRefusal, expected, completed}
-use Rattle.bridge.specs.Ticks.{timedOut, expire, expireTo, ticked, dropSlot, dropSlots, linkLost, linked}
-use Rattle.bridge.specs.Take.{stateIn, takeNumber, looked, slotFreed, releaseStep}
+use Rattle.machine.specs.State.{registersOf, raisedCore, opened, counted, shut, freed, freeSlotFrom, responseOf, refusalResponse, refusalChange, refusal, accepted, refused, freshCore, freshBridge, newBridge}
+use Rattle.machine.specs.Memory.{pcieOf, readRefusal, claimed, readTo, readStep}
+use Rattle.machine.specs.Config.{configNumber, localCore, routedBridge, configStep}
+use Rattle.machine.specs.Verdict.{memoryVerdict, configVerdict}
+use Rattle.machine.specs.Completions.{faulted, failed, finished, pieceClosed, advanced, memoryCompleted, configAnswer, configCompleted, verdictOf, completionOf, completeRefusal, expected, completed}
+use Rattle.machine.specs.Ticks.{timedOut, expire, expireTo, ticked, dropSlot, dropSlots, linkLost, linked}
+use Rattle.machine.specs.Take.{stateIn, takeNumber, looked, slotFreed, releaseStep}
 use Rattle.trace.specs.Events.{run, seen}
 use Rattle.trace.specs.FarSide.{Ask, Sends, wire0, Along, Some, none, came, lost, paired}
 use Rattle.trace.specs.Example.{begun, sent, events, toldOf, answers, asks, Met}

@@ -16,18 +16,18 @@ use Rattle.tlp.specs.declared.completion.Completion.{Completion}
 use Rattle.tlp.specs.declared.completion.CompletionRead.{CompletionRead}
 use Rattle.tlp.specs.declared.completion.CompletionRead.the-variants.{Header, Malformed}
 use Rattle.burst.specs.declared.Burst.{Burst}
-use Rattle.bridge.specs.declared.Bridge.{Bridge}
+use Rattle.machine.specs.Bridge.{Bridge}
 use Rattle.verdict.specs.declared.Cause.{Cause}
 use Rattle.verdict.specs.declared.Cause.the-variants.{Poison, Timeout}
 use Rattle.verdict.specs.declared.Verdict.{Verdict}
 use Rattle.verdict.specs.declared.Verdict.the-variants.{Unexpected, Good, Poisoned, Failed}
-use Rattle.bridge.specs.State.{tagCount, withTicks, withConfig, coreIn, slotsIn, raisedCore, missingOf, placeOf, ownerOf, isOpen, counted, shut, freed, opened, freeSlot, okay, slverr}
-use Rattle.bridge.specs.Memory.{claimed, readTo, readBridge, readRefusal, piecesOf, pieceOf, placeIn}
-use Rattle.bridge.specs.Verdict.{memoryVerdict, configVerdict}
-use Rattle.bridge.specs.Completions.{storeSize, Held, held, failed, finished, pieceClosed, closed, memoryCompleted, configCompleted, configDone, nextAddress, verdictOf, completionOf, isUnexpected, usefulBytes}
-use Rattle.bridge.specs.Ticks.{nextTick, ageOf, isOld, timedOut, expire, expireTo}
-use Rattle.bridge.specs.Take.{stateOf}
-use Rattle.bridge.proofs.Judging.{never}
+use Rattle.machine.specs.State.{tagCount, withTicks, withConfig, coreIn, setPieces, raisedCore, missingOf, ownerOf, placeOf, isOpen, Open, opened, counted, shut, freed, freeSlot, okay, slverr}
+use Rattle.machine.specs.Memory.{claimed, readTo, readBridge, readRefusal, piecesOf, pieceOf, placeIn}
+use Rattle.machine.specs.Verdict.{memoryVerdict, configVerdict}
+use Rattle.machine.specs.Completions.{storeSize, Held, held, failed, finished, pieceClosed, closed, memoryCompleted, configCompleted, configDone, nextAddress, verdictOf, completionOf, isUnexpected, usefulBytes}
+use Rattle.machine.specs.Ticks.{nextTick, ageOf, isOld, timedOut, expire, expireTo}
+use Rattle.machine.specs.Take.{stateOf}
+use Rattle.machine.proofs.Judging.{never}
 use Rattle.trace.specs.Events as event
 use Rattle.trace.specs.Events.{Event, step, run, start}
 use Rattle.trace.specs.FirstFailure.{Failure, better, firstFailed, responseBy, verdictFails, completionFails, tickFails, failsBy, failures}
@@ -39,7 +39,7 @@ use Rattle.trace.proofs.Tracks.{Tracks, fails, Shrinks, tracks-failed, 
 
 -- closing leaves the failures as they are
 failures-by : (z : Bool) (j : ℕ) (x : Bridge) (st : List ℕ)
-    → let y = cond z (finished j (held x st)) (held (slotsIn (x .state) (x .start) (x .size) (set (x .pieces) j (getD (x .pieces) j 0 - 1)) (x .fault) (x .cause) x) st) .bridge in
+    → let y = cond z (finished j (held x st)) (held (setPieces j (getD (x .pieces) j 0 - 1) x) st) .bridge in
     (y .fault ≡ x .fault) × (y .cause ≡ x .cause)
 unfolding finished
 failures-by true j x st = (refl, refl)
@@ -140,7 +140,7 @@ module _ (l a k : ℕ) (pos : 0 < l) where
     counted-smaller n x p e h =
         let f = counted-failures t n x in
         let w = counted-on t n x (omega (arith, lm, p .missing-size)) (omega (arith, lp, p .place-size)) (omega (arith, e)) in
-        let m : missingOf x t ≢ 0 = λ z. q .missing (sym e ∙ z) in
+        let m : Open x t = λ z. q .missing (sym e ∙ z) in
         touched-shrinks l a k pos t j x (counted t n x) (counted-touched t j n x) (at-k (f .0)) (at-k (f .1)) m (w .0) (w .1)
 
     -- the last bytes: the count is not kept, the tag closes

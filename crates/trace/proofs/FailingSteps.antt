@@ -21,19 +21,20 @@ use Rattle.burst.specs.Bursts.{lengthOf}
 use Rattle.burst.proofs.Pieces.{accepted-covers, blocks-of, piece-in-block}
 use Rattle.burst.proofs.Tiling.{piece-not-empty, piece-within}
 use Rattle.parts.specs.declared.Core.{Core}
-use Rattle.bridge.specs.declared.Bridge.{Bridge}
+use Rattle.parts.specs.declared.Pending.{Pending}
+use Rattle.machine.specs.Bridge.{Bridge}
 use Rattle.verdict.specs.declared.Cause.the-variants.{Timeout}
 use Rattle.verdict.specs.declared.Verdict.{Verdict}
 use Rattle.verdict.specs.declared.Verdict.the-variants.{Unexpected}
-use Rattle.bridge.specs.State.{tagCount, withTicks, withConfig, coreIn, raisedCore, missingOf, placeOf, ownerOf, isOpen, shut, opened, freeSlot, freeConfig, okay, slverr}
-use Rattle.bridge.specs.Memory.{claimed, readTo, readBridge, readRefusal, readStep, piecesOf, pieceOf, placeIn}
-use Rattle.bridge.specs.Config.{Access, localCore, routedBridge}
-use Rattle.bridge.specs.Verdict.{memoryVerdict, configVerdict}
-use Rattle.bridge.specs.Completions.{storeSize, Held, held, failed, pieceClosed, configCompleted, configDone, nextAddress, verdictOf, completionOf, isUnexpected}
-use Rattle.bridge.specs.Ticks.{nextTick, ageOf, isOld, timedOut, expire, expireTo, linkIn}
-use Rattle.bridge.specs.Take.{statesIn, takeRefusal, slotFreed}
-use Rattle.bridge.proofs.Judging.{never}
-use Rattle.bridge.proofs.Refusals.{ReadOk, read-ok}
+use Rattle.machine.specs.State.{tagCount, slotFree, withTicks, withConfig, freeConfig, coreIn, setState, raisedCore, missingOf, ownerOf, placeOf, isOpen, Open, opened, shut, freeSlot, okay, slverr}
+use Rattle.machine.specs.Memory.{claimed, readTo, readBridge, readRefusal, readStep, piecesOf, pieceOf, piecePending}
+use Rattle.machine.specs.Config.{Access, localCore, routedBridge}
+use Rattle.machine.specs.Verdict.{memoryVerdict, configVerdict}
+use Rattle.machine.specs.Completions.{storeSize, Held, held, failed, pieceClosed, configCompleted, configDone, nextAddress, verdictOf, completionOf, isUnexpected}
+use Rattle.machine.specs.Ticks.{nextTick, ageOf, isOld, timedOut, expire, expireTo, linkIn}
+use Rattle.machine.specs.Take.{takeRefusal, slotFreed}
+use Rattle.machine.proofs.Judging.{never}
+use Rattle.machine.proofs.Refusals.{ReadOk, read-ok}
 use Rattle.bridge_laws.proofs.Kept.{tags-left, opens-all}
 use Rattle.trace.specs.Events as event
 use Rattle.trace.specs.Events.{Event, step, run, start}
@@ -91,7 +92,7 @@ module _ (l a k : ℕ) (pos : 0 < l) (slot : k < 8) where
       other : (u : ℕ) → OpenFor y u k → u ≢ t
       other u q e = q .missing (ap (missingOf y) e ∙ c .gone)
 
-  released-by : (z : Bool) (j : ℕ) (b : Bridge) → j ≢ k → S b (cond z (statesIn (set (b .state) j 0) (b .cause) b) (coreIn (withConfig freeConfig (b .core)) b))
+  released-by : (z : Bool) (j : ℕ) (b : Bridge) → j ≢ k → S b (cond z (setState j slotFree b) (coreIn (withConfig freeConfig (b .core)) b))
   released-by true j b e = record {
     busy = λ w. rw (getD-set-other (b .state) j k 0 0 (λ f. e (sym f))) w;
     fault = refl;
@@ -107,26 +108,26 @@ module _ (l a k : ℕ) (pos : 0 < l) (slot : k < 8) where
   released-smaller j b e = released-by (ltb j 8) j b e
 
   -- a piece is opened for another slot
-  pub opened-smaller : (j p n : ℕ) (b : Bridge) → j ≢ k → 0 < available tagCount (b .core .free) → length (b .owner) ≡ tagCount → S b (opened j p n b)
+  pub opened-smaller : (r : Pending) (b : Bridge) → r .slot ≢ k → 0 < available tagCount (b .core .free) → length (b .owner) ≡ tagCount → S b (opened r b)
   unfolding opened
-  opened-smaller j p n b e f s = record {
+  opened-smaller r b e f s = record {
     busy = λ w. w;
     fault = refl;
     cause = refl;
     was = λ t q. record {
-      missing = λ z. q .missing (getD-set-other (b .missing) (lowest tagCount (b .core .free)) t n 0 (other t q) ∙ z);
-      owner = sym (getD-set-other (b .owner) (lowest tagCount (b .core .free)) t j 0 (other t q)) ∙ q .owner;
+      missing = λ z. q .missing (getD-set-other (b .missing) (lowest tagCount (b .core .free)) t (r .missing) 0 (other t q) ∙ z);
+      owner = sym (getD-set-other (b .owner) (lowest tagCount (b .core .free)) t (r .slot) 0 (other t q)) ∙ q .owner;
       slot = q .slot;
     };
-    on = λ t q. rw (getD-set-other (b .place) (lowest tagCount (b .core .free)) t p 0 (other t q)) (omega arith);
-    ends = λ t q. rw (getD-set-other (b .place) (lowest tagCount (b .core .free)) t p 0 (other t q), getD-set-other (b .missing) (lowest tagCount (b .core .free)) t n 0 (other t q));
+    on = λ t q. rw (getD-set-other (b .place) (lowest tagCount (b .core .free)) t (r .place) 0 (other t q)) (omega arith);
+    ends = λ t q. rw (getD-set-other (b .place) (lowest tagCount (b .core .free)) t (r .place) 0 (other t q), getD-set-other (b .missing) (lowest tagCount (b .core .free)) t (r .missing) 0 (other t q));
   }
     where
-      other : (t : ℕ) → OpenFor (opened j p n b) t k → t ≢ lowest tagCount (b .core .free)
+      other : (t : ℕ) → OpenFor (opened r b) t k → t ≢ lowest tagCount (b .core .free)
       other t q z =
           e
-          (sym (getD-set-same (b .owner) (lowest tagCount (b .core .free)) j 0 (omega (arith, lowest-free b f .low)))
-          ∙ ap (λ i. getD (set (b .owner) (lowest tagCount (b .core .free)) j) i 0) (sym z)
+          (sym (getD-set-same (b .owner) (lowest tagCount (b .core .free)) (r .slot) 0 (omega (arith, lowest-free b f .low)))
+          ∙ ap (λ i. getD (set (b .owner) (lowest tagCount (b .core .free)) (r .slot)) i 0) (sym z)
           ∙ q .owner)
 
   pub smaller-then : (b x y : Bridge) → S b x → S x y → S b y
@@ -177,9 +178,9 @@ module _ (l a k : ℕ) (pos : 0 < l) (slot : k < 8) (b : Bridge) (q : Burst) (ro
       let n = enough in
       let x = readTo (freeSlot b) q c i in
       let t = tags-left (freeSlot b) q c i (omega arith) in
-      let p = pieceOf (c .settings .reads) q i in
-      smaller-then l a k pos slot b x (opened (freeSlot b) (placeIn q p) (p .length) x) (read-smaller i (omega arith))
-      (opened-smaller l a k pos slot (freeSlot b) (placeIn q p) (p .length) x other (omega (arith, t)) (owner-size (freeSlot b) q c i ∙ ap length (claimed-owner (freeSlot b) q b) ∙ v .sizes .owner))
+      let r = piecePending (freeSlot b) (c .settings) q (pieceOf (c .settings .reads) q i) in
+      smaller-then l a k pos slot b x (opened r x) (read-smaller i (omega arith))
+      (opened-smaller l a k pos slot r x other (omega (arith, t)) (owner-size (freeSlot b) q c i ∙ ap length (claimed-owner (freeSlot b) q b) ∙ v .sizes .owner))
 
 -- ---- a tick
 
@@ -236,7 +237,7 @@ module _ (l a k : ℕ) (pos : 0 < l) (slot : k < 8) where
     keeps : Keeps l a k pos (firstFailed o (cond (eqb (ownerOf b t) k) (fails l a k pos (placeOf b t) Timeout ∷ []) [])) y
     ahead : Ahead (suc t) b y
 
-  module _ (t : ℕ) (h : Held) (v : Fine (h .bridge)) (m : missingOf (h .bridge) t ≢ 0) (o : Option Failure) (w : Keeps l a k pos o (h .bridge)) where
+  module _ (t : ℕ) (h : Held) (v : Fine (h .bridge)) (m : Open (h .bridge) t) (o : Option Failure) (w : Keeps l a k pos o (h .bridge)) where
     lm : t < length (h .bridge .missing)
     lm = omega (arith, tag-below (h .bridge) t (v .sizes) m, v .sizes .missing)
 

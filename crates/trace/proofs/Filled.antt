@@ -13,9 +13,9 @@ use Rattle.tlp.specs.declared.completion.CompletionRead.the-variants.{Header}
 use Rattle.burst.specs.declared.Burst.{Burst}
 use Rattle.burst.specs.Bursts.{lengthOf}
 use Rattle.burst.proofs.Tiling.{piece-within}
-use Rattle.bridge.specs.State.{missingOf, placeOf, ownerOf}
-use Rattle.bridge.specs.Verdict.{useful}
-use Rattle.bridge.specs.Completions.{Held, usefulBytes, completionOf}
+use Rattle.machine.specs.State.{missingOf, ownerOf, placeOf, Open}
+use Rattle.machine.specs.Verdict.{useful}
+use Rattle.machine.specs.Completions.{Held, usefulBytes, completionOf}
 use Rattle.trace.specs.Events.{Event, completion}
 use Rattle.trace.specs.FarSide.{carries, bytesSent, Wire}
 use Rattle.trace.specs.Sound.{Sound}
@@ -33,7 +33,7 @@ useful-most : (c : Completion) (n : ℕ) → useful c n ≤ n
 useful-most c n = omega arith
 
 module _ (sent : ℕ → List (List ℕ)) (l : ℕ) (pos : 0 < l) (q : Burst) (i k : ℕ) (small : k < 8) (h : Held) (w : Wire) (es : List Event) (label : ℕ) (s : List ℕ) (c : Completion)
-    (e : completionOf s ≡ Header c) (sound : Sound h) (m : missingOf (h .bridge) (c .tag) ≢ 0) (o : ownerOf (h .bridge) (c .tag) ≡ k) (answers : label ≡ ownOf (w .live) (c .tag))
+    (e : completionOf s ≡ Header c) (sound : Sound h) (m : Open (h .bridge) (c .tag)) (o : ownerOf (h .bridge) (c .tag) ≡ k) (answers : label ≡ ownOf (w .live) (c .tag))
     (mine : Mine sent l pos q i k (h .bridge) w (completion label s ∷ es) (c .tag)) (carry : carries c ≡ true) (count : c .count ≡ missingOf (h .bridge) (c .tag)) where
   abbrev t : ℕ
   t = c .tag
@@ -124,7 +124,7 @@ module _ (sent : ℕ → List (List ℕ)) (l : ℕ) (pos : 0 < l) (q : Burst) (i
     enough : u ≤ length came
     enough = let z = came-length in omega arith
 
-    mine-now : missingOf (x .bridge) t ≢ 0 → Mine sent l pos q i k (x .bridge) w es t
+    mine-now : Open (x .bridge) t → Mine sent l pos q i k (x .bridge) w es t
     mine-now g =
         record {
           turn = j;
@@ -147,8 +147,8 @@ module _ (sent : ℕ → List (List ℕ)) (l : ℕ) (pos : 0 < l) (q : Burst) (i
           place = omega (arith, step .missing v n, step .place v n, y .place);
         }
 
-    tags : (v : ℕ) → missingOf (x .bridge) v ≢ 0 → ownerOf (x .bridge) v ≡ k → Dec (v ≡ t) → Mine sent l pos q i k (x .bridge) w es v
-    tags v g z (yes y) = let g' : missingOf (x .bridge) t ≢ 0 = rw y at g in rw y (mine-now g')
+    tags : (v : ℕ) → Open (x .bridge) v → ownerOf (x .bridge) v ≡ k → Dec (v ≡ t) → Mine sent l pos q i k (x .bridge) w es v
+    tags v g z (yes y) = let g' : Open (x .bridge) t = rw y at g in rw y (mine-now g')
     tags v g z (no y) = mine-other v y (clean .tags v (λ f. g (step .missing v y ∙ f)) (sym (owner-same v) ∙ z))
 
     awaits : (y : ℕ) → (y < at) ⊎ (at + u ≤ y) → (a : Awaited sent l pos q i k (h .bridge) y) → Dec (a .tag ≡ t) → Awaited sent l pos q i k (x .bridge) y

@@ -10,12 +10,12 @@ use lib.Seq.{paste, getD-set-same, getD-set-other}
 use lib.Dec.{leb}
 use borrow.Author.Tests.{leb-true, eq-eqb}
 use Rattle.burst.specs.declared.Burst.{Burst}
-use Rattle.bridge.specs.declared.Bridge.{Bridge}
+use Rattle.machine.specs.Bridge.{Bridge}
 use Rattle.verdict.specs.declared.Cause.{Cause}
 use Rattle.verdict.specs.declared.Cause.the-variants.{Poison}
 use Rattle.verdict.specs.declared.Verdict.{Verdict}
-use Rattle.bridge.specs.State.{slotsIn, missingOf, placeOf, ownerOf, counted, shut, freed}
-use Rattle.bridge.specs.Completions.{Held, held, failed, finished, pieceClosed, closed, usefulBytes}
+use Rattle.machine.specs.State.{putPieces, setPieces, missingOf, ownerOf, placeOf, Open, counted, shut, freed}
+use Rattle.machine.specs.Completions.{Held, held, failed, finished, pieceClosed, closed, usefulBytes}
 use Rattle.bridge_laws.specs.CompletionLaws.{Elsewhere}
 use Rattle.trace.specs.Events.{Event}
 use Rattle.trace.specs.FarSide.{Wire}
@@ -49,7 +49,7 @@ piece-spoilt k h s = by (leb (getD (h .bridge .pieces) k 0) 1)
     two : getD (set (h .bridge .state) k 2) k 0 ≡ 2
     two = getD-set-same (h .bridge .state) k 2 0 (entry-below (h .bridge .state) k (s .state))
 
-    by : (z : Bool) → Spoilt k (cond z (finished k h) (held (slotsIn (h .bridge .state) (h .bridge .start) (h .bridge .size) (set (h .bridge .pieces) k (getD (h .bridge .pieces) k 0 - 1)) (h .bridge .fault) (h .bridge .cause) (h .bridge)) (h .store)) .bridge)
+    by : (z : Bool) → Spoilt k (cond z (finished k h) (held (setPieces k (getD (h .bridge .pieces) k 0 - 1) (h .bridge)) (h .store)) .bridge)
     by true = record { state = λ e. omega (arith, two); cause = s .cause }
     by false = record { state = s .state; cause = s .cause }
 
@@ -116,7 +116,7 @@ module _ (sent : ℕ → List (List ℕ)) (l : ℕ) (pos : 0 < l) (q : Burst) (i
   -- ---- the last piece closes, or one of several
 
   fewer : (h : Held) (w : Wire) (es : List Event) (p : List ℕ) → Going sent l pos q i k h w es
-      → Going sent l pos q i k (held (slotsIn (h .bridge .state) (h .bridge .start) (h .bridge .size) p (h .bridge .fault) (h .bridge .cause) (h .bridge)) (h .store)) w es
+      → Going sent l pos q i k (held (putPieces p (h .bridge)) (h .store)) w es
   fewer h w es p g =
       record {
         state = g .state;
@@ -131,17 +131,17 @@ module _ (sent : ℕ → List (List ℕ)) (l : ℕ) (pos : 0 < l) (q : Burst) (i
       }
     where
       bytes : (y : ℕ) → (getD (h .store) (4096 * k + y) 0 ≡ right sent l pos q i k y) ⊎ Awaited sent l pos q i k (h .bridge) y
-          → (getD (h .store) (4096 * k + y) 0 ≡ right sent l pos q i k y) ⊎ Awaited sent l pos q i k (slotsIn (h .bridge .state) (h .bridge .start) (h .bridge .size) p (h .bridge .fault) (h .bridge .cause) (h .bridge)) y
+          → (getD (h .store) (4096 * k + y) 0 ≡ right sent l pos q i k y) ⊎ Awaited sent l pos q i k (putPieces p (h .bridge)) y
       bytes y (inl e) = inl e
       bytes y (inr a) = inr (record { tag = a .tag; opens = a .opens; owner = a .owner; from = a .from; to = a .to })
 
       whole : (j : ℕ) → Exact sent l pos q i k j ⊎ Pending sent l pos q i k (h .bridge) w j
-          → Exact sent l pos q i k j ⊎ Pending sent l pos q i k (slotsIn (h .bridge .state) (h .bridge .start) (h .bridge .size) p (h .bridge .fault) (h .bridge .cause) (h .bridge)) w j
+          → Exact sent l pos q i k j ⊎ Pending sent l pos q i k (putPieces p (h .bridge)) w j
       whole j (inl e) = inl e
       whole j (inr a) = inr (record { tag = a .tag; opens = a .opens; owner = a .owner; own = a .own })
 
   pub closes : (h : Held) (w : Wire) (es : List Event) → Going sent l pos q i k h w es
-      → (getD (h .bridge .pieces) k 0 ≤ 1 → (u : ℕ) → missingOf (h .bridge) u ≢ 0 → ownerOf (h .bridge) u ≢ k) → Stage sent l pos q i k (pieceClosed k h) w es
+      → (getD (h .bridge .pieces) k 0 ≤ 1 → (u : ℕ) → Open (h .bridge) u → ownerOf (h .bridge) u ≢ k) → Stage sent l pos q i k (pieceClosed k h) w es
   unfolding pieceClosed finished
   closes h w es g none = by (leb (getD (h .bridge .pieces) k 0) 1) refl
     where
@@ -166,6 +166,6 @@ module _ (sent : ℕ → List (List ℕ)) (l : ℕ) (pos : 0 < l) (q : Burst) (i
           })
 
       by : (z : Bool) → leb (getD (h .bridge .pieces) k 0) 1 ≡ z
-          → Stage sent l pos q i k (cond z (finished k h) (held (slotsIn (h .bridge .state) (h .bridge .start) (h .bridge .size) (set (h .bridge .pieces) k (getD (h .bridge .pieces) k 0 - 1)) (h .bridge .fault) (h .bridge .cause) (h .bridge)) (h .store))) w es
+          → Stage sent l pos q i k (cond z (finished k h) (held (setPieces k (getD (h .bridge .pieces) k 0 - 1) (h .bridge)) (h .store))) w es
       by true e = ended (leb-true _ _ e)
       by false e = going (fewer h w es (set (h .bridge .pieces) k (getD (h .bridge .pieces) k 0 - 1)) g)

@@ -20,20 +20,21 @@ use Rattle.burst.specs.declared.Burst.{Burst}
 use Rattle.burst.specs.Bursts.{lengthOf}
 use Rattle.burst.proofs.Pieces.{accepted-covers, blocks-of, piece-in-block}
 use Rattle.burst.proofs.Tiling.{piece-not-empty, piece-within}
-use Rattle.bridge.specs.declared.Bridge.{Bridge}
+use Rattle.parts.specs.declared.Pending.{Pending}
+use Rattle.machine.specs.Bridge.{Bridge}
 use Rattle.verdict.specs.declared.Verdict.{Verdict}
 use Rattle.verdict.specs.declared.Verdict.the-variants.{Unexpected}
-use Rattle.bridge.specs.State.{tagCount, withRegisters, withTicks, withConfig, coreIn, missingOf, placeOf, ownerOf, isOpen, opened, freeSlot, okay, responseOf, accepted}
-use Rattle.bridge.specs.Memory.{claimed, readTo, readBridge, readRefusal, readStep, piecesOf, pieceOf, placeIn}
-use Rattle.bridge.specs.Config.{Access, localCore, routedBridge}
-use Rattle.bridge.specs.Verdict.{memoryVerdict, configVerdict}
-use Rattle.bridge.specs.Completions.{storeSize, Held, held, memoryCompleted, configCompleted, nextAddress, verdictOf, completionOf, isUnexpected}
-use Rattle.bridge.specs.Ticks.{nextTick, expireTo, linkIn}
-use Rattle.bridge.specs.Take.{stateOf, takeRefusal, slotFreed, releaseStep}
-use Rattle.bridge.proofs.Judging.{never}
-use Rattle.bridge.proofs.Refusals.{ReadOk, read-ok}
+use Rattle.machine.specs.State.{tagCount, configSlot, withRegisters, withTicks, coreIn, missingOf, ownerOf, placeOf, isOpen, opened, freeSlot, responseOf, accepted}
+use Rattle.machine.specs.Memory.{claimed, readTo, readBridge, readRefusal, readStep, piecesOf, pieceOf, placeIn, piecePending}
+use Rattle.machine.specs.Config.{Access, localCore, routedBridge, wordPending, configClaimed}
+use Rattle.machine.specs.Verdict.{memoryVerdict, configVerdict}
+use Rattle.machine.specs.Completions.{storeSize, Held, held, memoryCompleted, configCompleted, nextAddress, verdictOf, completionOf, isUnexpected}
+use Rattle.machine.specs.Ticks.{nextTick, expireTo, linkIn}
+use Rattle.machine.specs.Take.{stateOf, takeRefusal, slotFreed, releaseStep}
+use Rattle.machine.proofs.Judging.{never}
+use Rattle.machine.proofs.Refusals.{ReadOk, read-ok}
 use Rattle.bridge_laws.proofs.Kept.{tags-left, opens-all}
-use Rattle.bridge.proofs.Configs.{passed}
+use Rattle.machine.proofs.Configs.{passed}
 use Rattle.trace.specs.Events as event
 use Rattle.trace.specs.Events.{Event, step, run, start}
 use Rattle.trace.specs.Claims.{Answered, takes, Untaken, isDown, Steady}
@@ -109,12 +110,12 @@ module _ (l a k : ℕ) (pos : 0 < l) (slot : k < 8) where
   step-keeps {h} (locals {a = x} n e r) v t d o w =
       tracks-shrinks l a k pos o (h .bridge) (coreIn (localCore (h .bridge .core) x n) (h .bridge)) (core-smaller l a k pos slot (localCore (h .bridge .core) x n) (h .bridge)) w
   step-keeps {h} (routes {a = x} {room = room} e u) v t d o w =
-      let c = withConfig (record { state = 1; write = x .write; response = okay; word = 0 }) (h .bridge .core) in
-      let b = coreIn c (h .bridge) in
-      let n : 8 ≢ k = λ z. omega arith in
-      tracks-shrinks l a k pos o (h .bridge) (opened 8 0 4 b)
-      (smaller-then l a k pos slot (h .bridge) b (opened 8 0 4 b) (core-smaller l a k pos slot c (h .bridge))
-      (opened-smaller l a k pos slot 8 0 4 b n (passed (h .bridge .core) _ room e .tag u) (v .sizes .owner)))
+      let r = wordPending (x .write) in
+      let b = configClaimed x (h .bridge) in
+      let n : configSlot ≢ k = λ z. omega arith in
+      tracks-shrinks l a k pos o (h .bridge) (opened r b)
+      (smaller-then l a k pos slot (h .bridge) b (opened r b) (core-smaller l a k pos slot (b .core) (h .bridge))
+      (opened-smaller l a k pos slot r b n (passed (h .bridge .core) _ room e .tag u) (v .sizes .owner)))
       w
   step-keeps {h} (memories {i = i} {s = s} c x e r p u f g) v t d o w =
       let tag = c .tag in
@@ -155,15 +156,16 @@ module _ (l a k : ℕ) (pos : 0 < l) (slot : k < 8) where
 
 -- ---- a read that has just been accepted
 
-opened-sizes : (slot place n : ℕ) (b : Bridge) → Sizes b → Sizes (opened slot place n b)
+opened-sizes : (r : Pending) (b : Bridge) → Sizes b → Sizes (opened r b)
 unfolding opened
-opened-sizes slot place n b s = record {
-  missing = length-set (b .missing) (lowest tagCount (b .core .free)) n ∙ s .missing;
+opened-sizes r b s = record {
+  missing = length-set (b .missing) (lowest tagCount (b .core .free)) (r .missing) ∙ s .missing;
   sent = length-set (b .sent) (lowest tagCount (b .core .free)) (b .core .ticks) ∙ s .sent;
-  owner = length-set (b .owner) (lowest tagCount (b .core .free)) slot ∙ s .owner;
-  place = length-set (b .place) (lowest tagCount (b .core .free)) place ∙ s .place;
+  owner = length-set (b .owner) (lowest tagCount (b .core .free)) (r .slot) ∙ s .owner;
+  place = length-set (b .place) (lowest tagCount (b .core .free)) (r .place) ∙ s .place;
+  next = length-set (b .next) (lowest tagCount (b .core .free)) (r .next) ∙ s .next;
+  kind = length-set (b .kind) (lowest tagCount (b .core .free)) (r .kind) ∙ s .kind;
   state = s .state;
-  start = s .start;
   size = s .size;
   pieces = s .pieces;
   fault = s .fault;
@@ -212,8 +214,9 @@ module _ (b : Bridge) (q : Burst) (room : ℕ) (v : Fine b) (e : readRefusal b q
     sent = v .sizes .sent;
     owner = v .sizes .owner;
     place = v .sizes .place;
+    next = v .sizes .next;
+    kind = v .sizes .kind;
     state = length-set (b .state) k 1 ∙ v .sizes .state;
-    start = length-set (b .start) k (q .start .0 % 4096) ∙ v .sizes .start;
     size = length-set (b .size) k (lengthOf q) ∙ v .sizes .size;
     pieces = length-set (b .pieces) k (piecesOf l q) ∙ v .sizes .pieces;
     fault = length-set (b .fault) k 4096 ∙ v .sizes .fault;
@@ -223,33 +226,33 @@ module _ (b : Bridge) (q : Burst) (room : ℕ) (v : Fine b) (e : readRefusal b q
   read-sizes : (i : ℕ) → Sizes (readTo k q c i)
   unfolding readTo
   read-sizes zero = claimed-sizes
-  read-sizes (suc i) = opened-sizes k (placeIn q (pieceOf (c .settings .reads) q i)) (pieceOf (c .settings .reads) q i .length) (readTo k q c i) (read-sizes i)
+  read-sizes (suc i) = opened-sizes (piecePending k (c .settings) q (pieceOf (c .settings .reads) q i)) (readTo k q c i) (read-sizes i)
 
   claimed-settings : c .settings .reads ≡ l
   unfolding claimed
   claimed-settings = refl
 
-  opened-tag : (p n : ℕ) (x : Bridge) → Sizes x → 0 < available tagCount (x .core .free) → (t : ℕ)
-      → ((t ≡ lowest tagCount (x .core .free)) × ((placeOf (opened k p n x) t ≡ p) × (missingOf (opened k p n x) t ≡ n)))
-      ⊎ ((placeOf (opened k p n x) t ≡ placeOf x t) × ((missingOf (opened k p n x) t ≡ missingOf x t) × (ownerOf (opened k p n x) t ≡ ownerOf x t)))
+  opened-tag : (r : Pending) (x : Bridge) → Sizes x → 0 < available tagCount (x .core .free) → (t : ℕ)
+      → ((t ≡ lowest tagCount (x .core .free)) × ((placeOf (opened r x) t ≡ r .place) × (missingOf (opened r x) t ≡ r .missing)))
+      ⊎ ((placeOf (opened r x) t ≡ placeOf x t) × ((missingOf (opened r x) t ≡ missingOf x t) × (ownerOf (opened r x) t ≡ ownerOf x t)))
   unfolding opened
-  opened-tag p n x s f t = go (ℕ-discrete t (lowest tagCount (x .core .free)))
+  opened-tag r x s f t = go (ℕ-discrete t (lowest tagCount (x .core .free)))
     where
       go : Dec (t ≡ lowest tagCount (x .core .free))
-          → ((t ≡ lowest tagCount (x .core .free)) × ((placeOf (opened k p n x) t ≡ p) × (missingOf (opened k p n x) t ≡ n)))
-          ⊎ ((placeOf (opened k p n x) t ≡ placeOf x t) × ((missingOf (opened k p n x) t ≡ missingOf x t) × (ownerOf (opened k p n x) t ≡ ownerOf x t)))
+          → ((t ≡ lowest tagCount (x .core .free)) × ((placeOf (opened r x) t ≡ r .place) × (missingOf (opened r x) t ≡ r .missing)))
+          ⊎ ((placeOf (opened r x) t ≡ placeOf x t) × ((missingOf (opened r x) t ≡ missingOf x t) × (ownerOf (opened r x) t ≡ ownerOf x t)))
       go (yes z) =
           inl (
             z,
             (
-              subst (λ i. getD (set (x .place) (lowest tagCount (x .core .free)) p) i 0 ≡ p) (sym z) (getD-set-same (x .place) (lowest tagCount (x .core .free)) p 0 (omega (arith, lowest-free x f .low, s .place))),
-              subst (λ i. getD (set (x .missing) (lowest tagCount (x .core .free)) n) i 0 ≡ n) (sym z) (getD-set-same (x .missing) (lowest tagCount (x .core .free)) n 0 (omega (arith, lowest-free x f .low, s .missing))),
+              subst (λ i. getD (set (x .place) (lowest tagCount (x .core .free)) (r .place)) i 0 ≡ r .place) (sym z) (getD-set-same (x .place) (lowest tagCount (x .core .free)) (r .place) 0 (omega (arith, lowest-free x f .low, s .place))),
+              subst (λ i. getD (set (x .missing) (lowest tagCount (x .core .free)) (r .missing)) i 0 ≡ r .missing) (sym z) (getD-set-same (x .missing) (lowest tagCount (x .core .free)) (r .missing) 0 (omega (arith, lowest-free x f .low, s .missing))),
             ),
           )
       go (no z) =
           inr (
-            getD-set-other (x .place) (lowest tagCount (x .core .free)) t p 0 z,
-            (getD-set-other (x .missing) (lowest tagCount (x .core .free)) t n 0 z, getD-set-other (x .owner) (lowest tagCount (x .core .free)) t k 0 z),
+            getD-set-other (x .place) (lowest tagCount (x .core .free)) t (r .place) 0 z,
+            (getD-set-other (x .missing) (lowest tagCount (x .core .free)) t (r .missing) 0 z, getD-set-other (x .owner) (lowest tagCount (x .core .free)) t (r .slot) 0 z),
           )
 
   pieces-open : (n : ℕ) → n ≤ piecesOf l q → (t : ℕ) → OpenFor (readTo k q c n) t k → Piece-of n (readTo k q c n) t
@@ -258,13 +261,12 @@ module _ (b : Bridge) (q : Burst) (room : ℕ) (v : Fine b) (e : readRefusal b q
   pieces-open (suc n) h t o =
       let m = enough in
       let left = tags-left k q c n (omega arith) in
-      let p = pieceOf (c .settings .reads) q n in
-      go (pieces-open n (omega arith) t) (opened-tag (placeIn q p) (p .length) (readTo k q c n) (read-sizes n) (omega (arith, left)) t)
+      go (pieces-open n (omega arith) t) (opened-tag (piecePending k (c .settings) q (pieceOf (c .settings .reads) q n)) (readTo k q c n) (read-sizes n) (omega (arith, left)) t)
     where
       go : (OpenFor (readTo k q c n) t k → Piece-of n (readTo k q c n) t)
           → let x = readTo k q c n in
           let p = pieceOf (c .settings .reads) q n in
-          let y = opened k (placeIn q p) (p .length) x in
+          let y = opened (piecePending k (c .settings) q p) x in
           ((t ≡ lowest tagCount (x .core .free)) × ((placeOf y t ≡ placeIn q p) × (missingOf y t ≡ p .length)))
           ⊎ ((placeOf y t ≡ placeOf x t) × ((missingOf y t ≡ missingOf x t) × (ownerOf y t ≡ ownerOf x t)))
           → Piece-of (suc n) y t

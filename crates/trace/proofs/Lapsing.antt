@@ -13,11 +13,11 @@ use Rattle.common.proofs.Tests.{and-left}
 use Rattle.burst.specs.declared.Burst.{Burst}
 use Rattle.burst.specs.Bursts.{lengthOf}
 use Rattle.verdict.specs.declared.Cause.the-variants.{Timeout}
-use Rattle.bridge.specs.State.{withConfig, coreIn, raisedCore, missingOf, placeOf, ownerOf, isOpen, shut, slverr}
-use Rattle.bridge.specs.Completions.{storeSize, Held, held, failed, finished, pieceClosed, configDone}
-use Rattle.bridge.specs.Ticks.{isOld, ageOf, timedOut, expire, expireTo}
+use Rattle.machine.specs.State.{withConfig, coreIn, raisedCore, missingOf, placeOf, ownerOf, isOpen, shut, slverr}
+use Rattle.machine.specs.Completions.{storeSize, Held, held, failed, finished, pieceClosed, configDone}
+use Rattle.machine.specs.Ticks.{isOld, ageOf, timedOut, expire, expireTo}
 use Rattle.bridge_laws.specs.CompletionLaws.{Kept, SlotSame}
-use Rattle.bridge.proofs.Judging.{open-room}
+use Rattle.machine.proofs.Judging.{open-room}
 use Rattle.bridge_laws.proofs.Keeping.{only-core, then, failed-only, shut-only, kept-then, kept-bridge, piece-kept}
 use Rattle.bridge_laws.proofs.Finished.{kept-slot}
 use Rattle.trace.specs.Events.{Event}

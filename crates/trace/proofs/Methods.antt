@@ -6,11 +6,11 @@ use mathlib.Core.Bool.{Bool, true, false, cond}
 use lib.ListN.{length, drop}
 use lib.Dec.{eqb}
 use borrow.Author.Tests.{eqb-true}
-use Rattle.bridge.specs.State.{accepted, refusal}
-use Rattle.bridge.specs.Memory.{filled, readRefusal, readBytes, readArea, writeRefusal, writeBytes, writeArea}
-use Rattle.bridge.specs.Config.{accessOf, configRefusal, configBytes, configArea}
-use Rattle.bridge.specs.Completions.{plain}
-use Rattle.bridge.specs.Take.{takeRefusal}
+use Rattle.machine.specs.State.{accepted, refusal}
+use Rattle.machine.specs.Memory.{filled, readRefusal, readBytes, readArea, writeRefusal, writeBytes, writeArea}
+use Rattle.machine.specs.Config.{accessOf, configRefusal, configBytes, configArea}
+use Rattle.machine.specs.Completions.{plain}
+use Rattle.machine.specs.Take.{takeRefusal}
 use Rattle.trace.specs.Methods.{Plays, Methods}
 
 area-by : (z : Bool) (bytes area : List ℕ) → cond z (filled bytes area) area ≡ filled (cond z bytes []) area

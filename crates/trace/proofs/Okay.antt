@@ -3,27 +3,28 @@
 use Prim.Native.Nat.{ℕ, _+_, _<_}
 use mathlib.Core.Path.{_≡_, refl, sym, ap, _∙_, subst}
 use mathlib.Core.List.{List, _∷_}
-use mathlib.Core.Bool.{true, false}
+use mathlib.Core.Bool.{Bool, true, false}
 use native.Mathlib.Omega.{arith}
 use lib.ListN.{length, getD}
+use lib.Dec.{eqb}
 use borrow.Author.Tests.{eqb-false, eq-eqb, lt-ltb}
 use Rattle.address.specs.declared.Settings.{Settings}
 use Rattle.burst.specs.declared.Burst.{Burst}
 use Rattle.ecam.specs.declared.Route.{Route}
 use Rattle.ecam.specs.declared.Route.the-variants.{OutOfRange, Local, Type0, Type1, NotRouted, DeviceNotZero}
 use Rattle.ecam.specs.Route.{numberOf}
-use Rattle.bridge.specs.declared.Bridge.{Bridge}
+use Rattle.machine.specs.Bridge.{Bridge}
 use Rattle.parts.specs.declared.ConfigSlot.{ConfigSlot}
-use Rattle.bridge.specs.State.{responseOf, accepted, freeSlot}
-use Rattle.bridge.specs.Memory.{piecesOf, pieceOf, readRefusal, readBridge}
-use Rattle.bridge.specs.Config.{Access, routeOf, goesOut, configRefusal, localCore, localBridge, routedBridge, configBridge}
-use Rattle.bridge.specs.Completions.{Held}
-use Rattle.bridge.specs.Take.{stateOf, releaseStep}
-use Rattle.bridge.proofs.Refusals.{read-ok}
+use Rattle.machine.specs.State.{configWrite, freeSlot, responseOf, accepted}
+use Rattle.machine.specs.Memory.{piecesOf, pieceOf, readRefusal, readBridge}
+use Rattle.machine.specs.Config.{Access, routeOf, goesOut, configRefusal, localCore, localBridge, routedBridge, configBridge, wordPending}
+use Rattle.machine.specs.Completions.{Held}
+use Rattle.machine.specs.Take.{stateOf, releaseStep}
+use Rattle.machine.proofs.Refusals.{read-ok}
 use Rattle.bridge_laws.proofs.Kept.{accepted-read-keeps}
 use Rattle.bridge_laws.proofs.Stored.{accepted-read-opens}
-use Rattle.bridge.proofs.Configs.{passed}
-use Rattle.bridge.proofs.Judging.{never}
+use Rattle.machine.proofs.Configs.{passed}
+use Rattle.machine.proofs.Judging.{never}
 use Rattle.trace.specs.Events as event
 use Rattle.trace.specs.Events.{Event, step, run, start}
 use Rattle.trace.specs.FarSide.{requests, Wire, wireAfter, paired}
@@ -134,6 +135,11 @@ routed-step b a Type1 e = refl
 routed-step b a NotRouted e = never (sym e)
 routed-step b a DeviceNotZero e = never (sym e)
 
+-- the kind of an access says whether it is a write
+kind-write : (w : Bool) → eqb (wordPending w .kind) configWrite ≡ w
+kind-write true = refl
+kind-write false = refl
+
 module _ (sent : ℕ → List (List ℕ)) (h : Held) (a : Access) (room : ℕ) (v : Sound h) (e : configRefusal (h .bridge) a room ≡ 0) (out : goesOut (routeOf (h .bridge) a) ≡ true) where
   abbrev requester : ℕ
   requester = h .bridge .settings .requester
@@ -146,8 +152,9 @@ module _ (sent : ℕ → List (List ℕ)) (h : Held) (a : Access) (room : ℕ) (
       record {
         clean = (ap (λ (c : ConfigSlot). c .response) (p .config), ap (λ (s : Settings). s .requester) (p .settings));
         due = λ t o.
-            ap (λ (c : ConfigSlot). anyGoodWord requester (c .write) (paired (ownOf (w' .live) t) during)) (p .config)
-            ∙ (ap (λ (i : ℕ). anyGoodWord requester (a .write) (paired i during)) (ap (ownOf (w' .live)) (routed-newer h a room v e t o .tag) ∙ routed-number h a room e out w) ∙ f);
+            let n = routed-newer h a room v e t o in
+            ap (λ (z : Bool). anyGoodWord requester z (paired (ownOf (w' .live) t) during)) (ap (λ (z : ℕ). eqb z configWrite) (n .kind) ∙ kind-write (a .write))
+            ∙ (ap (λ (i : ℕ). anyGoodWord requester (a .write) (paired i during)) (ap (ownOf (w' .live)) (n .tag) ∙ routed-number h a room e out w) ∙ f);
       }
 
   config-answers : (n : ℕ) (during : List Event) → Reached sent h n (event.config a room ∷ during) → ticks during < h .bridge .settings .limit → Steady during

@@ -12,15 +12,15 @@ use Rattle.bits.specs.Bits.{isSet}
 use Rattle.tags.specs.Tags.{lowest}
 use Rattle.tags.proofs.Tags.{listed-is-free, lowest-is}
 use Rattle.burst.specs.declared.Burst.{Burst}
-use Rattle.bridge.specs.declared.Bridge.{Bridge}
-use Rattle.bridge.specs.State.{tagCount}
-use Rattle.bridge.specs.Memory.{piecesOf, readRefusal}
-use Rattle.bridge.specs.Config.{Access, routeOf, goesOut, configRefusal}
-use Rattle.bridge.specs.Completions.{Held}
+use Rattle.machine.specs.Bridge.{Bridge}
+use Rattle.machine.specs.State.{tagCount}
+use Rattle.machine.specs.Memory.{piecesOf, readRefusal}
+use Rattle.machine.specs.Config.{Access, routeOf, goesOut, configRefusal}
+use Rattle.machine.specs.Completions.{Held}
 use Rattle.bridge_laws.specs.MemoryLaws.{tagOf}
-use Rattle.bridge.proofs.Refusals.{read-ok}
-use Rattle.bridge.proofs.Configs.{passed}
-use Rattle.bridge.proofs.Judging.{never}
+use Rattle.machine.proofs.Refusals.{read-ok}
+use Rattle.machine.proofs.Configs.{passed}
+use Rattle.machine.proofs.Judging.{never}
 use Rattle.trace.specs.Events as event
 use Rattle.trace.specs.FarSide.{Ask, asked, Wire, sending}
 use Rattle.trace.specs.Sound.{Sound}

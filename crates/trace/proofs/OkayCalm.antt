@@ -13,15 +13,15 @@ use Rattle.common.proofs.Tests.{and-left, and-right}
 use Rattle.address.specs.declared.Settings.{Settings}
 use Rattle.burst.specs.declared.Burst.{Burst}
 use Rattle.parts.specs.declared.Core.{Core}
-use Rattle.bridge.specs.declared.Bridge.{Bridge}
+use Rattle.machine.specs.Bridge.{Bridge}
 use Rattle.verdict.specs.declared.Cause.the-variants.{Timeout}
 use Rattle.verdict.specs.declared.Verdict.{Verdict}
-use Rattle.bridge.specs.State.{withConfig, coreIn, raisedCore, missingOf, placeOf, ownerOf, isOpen, shut, freed, slverr}
-use Rattle.bridge.specs.Memory.{readRefusal, readBridge}
-use Rattle.bridge.specs.Config.{Access, configRefusal, localCore, localBridge, routedBridge}
-use Rattle.bridge.specs.Completions.{Held, held, failed, pieceClosed, memoryCompleted, configDone, configAnswer, configCompleted}
-use Rattle.bridge.specs.Ticks.{ageOf, isOld, timedOut, expire, expireTo}
-use Rattle.bridge.specs.Take.{stateOf, takeRefusal, slotFreed, releaseStep}
+use Rattle.machine.specs.State.{withConfig, coreIn, raisedCore, missingOf, ownerOf, placeOf, kindOf, isOpen, Open, shut, freed, slverr}
+use Rattle.machine.specs.Memory.{readRefusal, readBridge}
+use Rattle.machine.specs.Config.{Access, configRefusal, localCore, localBridge, routedBridge}
+use Rattle.machine.specs.Completions.{Held, held, failed, pieceClosed, memoryCompleted, configDone, configAnswer, configCompleted}
+use Rattle.machine.specs.Ticks.{ageOf, isOld, timedOut, expire, expireTo}
+use Rattle.machine.specs.Take.{stateOf, takeRefusal, slotFreed, releaseStep}
 use Rattle.bridge_laws.specs.ConfigLaws.{Released}
 use Rattle.bridge_laws.proofs.Kept.{accepted-read-keeps}
 use Rattle.bridge_laws.proofs.TakeLaws.{release-frees}
@@ -33,16 +33,22 @@ use Rattle.trace.proofs.DeadlineMoves.{OpenFor, Goes, open-some, expire
 use Rattle.trace.proofs.DeadlineSteps.{older-open, not-taken, read-older, routed-keeps, not-config, routed-older}
 use Rattle.trace.proofs.DeadlineAges.{Since, since-goes, age-is}
 
+-- an open tag of slot k was open, with the same bytes missing, for the same kind of request
+pub record SameTag (k : ℕ) (b x : Bridge) (t : ℕ) : Type 0 where
+  pub opens : OpenFor b k t
+  pub missing : missingOf x t ≡ missingOf b t
+  pub kind : kindOf x t ≡ kindOf b t
+
 -- the answer that slot k's access would get, and its tags
 pub record Calm (k : ℕ) (b x : Bridge) : Type 0 where
   pub settings : x .settings ≡ b .settings
   pub cause : getD (x .cause) k 0 ≡ getD (b .cause) k 0
   pub config : k ≡ 8 → x .core .config ≡ b .core .config
-  pub tags : (t : ℕ) → OpenFor x k t → OpenFor b k t × (missingOf x t ≡ missingOf b t)
+  pub tags : (t : ℕ) → OpenFor x k t → SameTag k b x t
 
 module _ (k : ℕ) where
   pub calm-core : (b : Bridge) (c : Core) → (k ≡ 8 → c .config ≡ b .core .config) → Calm k b (coreIn c b)
-  calm-core b c f = record { settings = refl; cause = refl; config = f; tags = λ t o. (o, refl) }
+  calm-core b c f = record { settings = refl; cause = refl; config = f; tags = λ t o. record { opens = o; missing = refl; kind = refl } }
 
   pub calm-same : (b : Bridge) → Calm k b b
   calm-same b = calm-core b (b .core) (λ e. refl)
@@ -52,18 +58,18 @@ module _ (k : ℕ) where
     settings = q .settings ∙ p .settings;
     cause = q .cause ∙ p .cause;
     config = λ e. q .config e ∙ p .config e;
-    tags = λ t o. let r = q .tags t o in let s = p .tags t (r .0) in (s .0, r .1 ∙ s .1);
+    tags = λ t o. let r = q .tags t o in let s = p .tags t (r .opens) in record { opens = s .opens; missing = r .missing ∙ s .missing; kind = r .kind ∙ s .kind };
   }
 
   -- another slot's piece goes on
   pub calm-moved : (j t : ℕ) (b x : Bridge) → Moved j t b x → j ≢ k → ownerOf b t ≢ k → Calm k b x
   calm-moved j t b x p n m = record { settings = p .settings; cause = p .cause k (λ e. n (sym e)); config = λ e. p .config; tags = λ u o. by u o }
     where
-      by : (u : ℕ) → OpenFor x k u → OpenFor b k u × (missingOf x u ≡ missingOf b u)
+      by : (u : ℕ) → OpenFor x k u → SameTag k b x u
       by u o =
           let w : ownerOf b u ≡ k = sym (ap (λ (l : List ℕ). getD l u 0) (p .owner)) ∙ o .1 in
           let d : u ≢ t = λ e. m (ap (ownerOf b) (sym e) ∙ w) in
-          ((λ z. o .0 (p .missing u d ∙ z), w), p .missing u d)
+          record { opens = (λ z. o .0 (p .missing u d ∙ z), w); missing = p .missing u d; kind = ap (λ (l : List ℕ). getD l u 0) (p .kind) }
 
   -- ---- other accesses begin and are taken
 
@@ -74,7 +80,7 @@ module _ (k : ℕ) where
         settings = p .settings;
         cause = p .cause k (not-taken k b q room s e o);
         config = λ z. p .config;
-        tags = λ t r. let y = read-older k b q room s e o t r in (older-open b (readBridge b q) k t y r, y .missing);
+        tags = λ t r. let y = read-older k b q room s e o t r in record { opens = older-open b (readBridge b q) k t y r; missing = y .missing; kind = y .kind };
       }
 
   pub local-calm : (b : Bridge) (a : Access) (room w : ℕ) → Sizes b → configRefusal b a room ≡ 0 → stateOf b k ≡ 1 → Calm k b (localBridge b a w)
@@ -87,7 +93,7 @@ module _ (k : ℕ) where
         settings = p .settings;
         cause = ap (λ (l : List ℕ). getD l k 0) (p .cause);
         config = λ z. absurd (not-config k b a room s e o z);
-        tags = λ t r. let y = routed-older k b a room s e o t r in (older-open b (routedBridge b a) k t y r, y .missing);
+        tags = λ t r. let y = routed-older k b a room s e o t r in record { opens = older-open b (routedBridge b a) k t y r; missing = y .missing; kind = y .kind };
       }
 
   pub release-calm : (b : Bridge) (room j : ℕ) → takeRefusal b room j ≡ 0 → stateOf b k ≡ 1 → Calm k b (slotFreed j b)
@@ -98,7 +104,12 @@ module _ (k : ℕ) where
         settings = ap (λ (y : Bridge). y .settings) (r .rest);
         cause = ap (λ (y : Bridge). getD (y .cause) k 0) (r .rest);
         config = λ z. r .config (below z (decLt 8 j) (ℕ-discrete j 8));
-        tags = λ t q. ((λ z. q .0 (ap (λ (y : Bridge). missingOf y t) (r .rest) ∙ z), sym (ap (λ (y : Bridge). ownerOf y t) (r .rest)) ∙ q .1), ap (λ (y : Bridge). missingOf y t) (r .rest));
+        tags = λ t q.
+            record {
+              opens = (λ z. q .0 (ap (λ (y : Bridge). missingOf y t) (r .rest) ∙ z), sym (ap (λ (y : Bridge). ownerOf y t) (r .rest)) ∙ q .1);
+              missing = ap (λ (y : Bridge). missingOf y t) (r .rest);
+              kind = ap (λ (y : Bridge). kindOf y t) (r .rest);
+            };
       }
     where
       done : stateOf b j ≡ 2
@@ -128,10 +139,10 @@ module _ (k : ℕ) where
 -- ---- a tick before the deadline
 
 module _ (k c : ℕ) (h : Held) (since : Since (h .bridge) k c) (soon : c < h .bridge .settings .limit) (small : c < 4294967296)
-    (past : (t : ℕ) → missingOf (h .bridge) t ≢ 0 → getD (h .bridge .sent) t 0 < 4294967296)
-    (most : (t : ℕ) → missingOf (h .bridge) t ≢ 0 → ownerOf (h .bridge) t ≤ 8) where
+    (past : (t : ℕ) → Open (h .bridge) t → getD (h .bridge .sent) t 0 < 4294967296)
+    (most : (t : ℕ) → Open (h .bridge) t → ownerOf (h .bridge) t ≤ 8) where
   -- a tag that is as old as the limit is another access's
-  not-old : (x : Bridge) → Goes k (h .bridge) x → (t : ℕ) → missingOf x t ≢ 0 → eqb (ageOf (x .core .ticks) (getD (x .sent) t 0)) (x .settings .limit) ≡ true → ownerOf x t ≢ k
+  not-old : (x : Bridge) → Goes k (h .bridge) x → (t : ℕ) → Open x t → eqb (ageOf (x .core .ticks) (getD (x .sent) t 0)) (x .settings .limit) ≡ true → ownerOf x t ≢ k
   not-old x g t m e o =
       let r = g .tags t (m, o) in
       let p : getD (x .sent) t 0 < 4294967296 = subst (λ (n : ℕ). n < 4294967296) (sym (r .1)) (past t (r .0 .0)) in
@@ -140,7 +151,7 @@ module _ (k c : ℕ) (h : Held) (since : Since (h .bridge) k c) (soon : c < h .b
       let f : c ≡ h .bridge .settings .limit = sym a ∙ (eqb-true (ageOf (x .core .ticks) (getD (x .sent) t 0)) (x .settings .limit) e ∙ l) in
       absurd (omega (arith, f, soon))
 
-  late-calm : (y : Held) (t : ℕ) → missingOf (y .bridge) t ≢ 0 → ownerOf (y .bridge) t ≢ k → ownerOf (y .bridge) t ≤ 8 → (z : Bool) → ltb (ownerOf (y .bridge) t) 8 ≡ z → Calm k (y .bridge) (timedOut t y .bridge)
+  late-calm : (y : Held) (t : ℕ) → Open (y .bridge) t → ownerOf (y .bridge) t ≢ k → ownerOf (y .bridge) t ≤ 8 → (z : Bool) → ltb (ownerOf (y .bridge) t) 8 ≡ z → Calm k (y .bridge) (timedOut t y .bridge)
   unfolding timedOut
   late-calm y t m n l true z =
       let b = y .bridge in

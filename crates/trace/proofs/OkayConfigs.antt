@@ -13,13 +13,13 @@ use Rattle.tlp.specs.declared.completion.Completion.{Completion}
 use Rattle.tlp.specs.declared.completion.CompletionRead.{CompletionRead}
 use Rattle.tlp.specs.declared.completion.CompletionRead.the-variants.{Header}
 use Rattle.address.specs.declared.Settings.{Settings}
-use Rattle.bridge.specs.declared.Bridge.{Bridge}
+use Rattle.machine.specs.Bridge.{Bridge}
 use Rattle.parts.specs.declared.ConfigSlot.{ConfigSlot}
 use Rattle.verdict.specs.declared.Verdict.{Verdict}
 use Rattle.verdict.specs.declared.Verdict.the-variants.{Unexpected, Good}
-use Rattle.bridge.specs.State.{withConfig, coreIn, missingOf, ownerOf, shut, freed}
-use Rattle.bridge.specs.Verdict.{configShape, configVerdict}
-use Rattle.bridge.specs.Completions.{Held, configAnswer, configCompleted, verdictOf, completionOf}
+use Rattle.machine.specs.State.{configWrite, withConfig, coreIn, missingOf, ownerOf, Open, isWrite, shut, freed}
+use Rattle.machine.specs.Verdict.{configShape, configVerdict}
+use Rattle.machine.specs.Completions.{Held, configAnswer, configCompleted, verdictOf, completionOf}
 use Rattle.trace.specs.Events.{Event}
 use Rattle.trace.specs.FarSide.{Wire, paired}
 use Rattle.trace.specs.Claims.{isGoodWord, anyGoodWord}
@@ -56,12 +56,12 @@ word-verdict : (r : ℕ) (w : Bool) (c : Completion) → isGoodWord r w (Header 
 unfolding configVerdict
 word-verdict r w c e = let p = word-parts r w c e in rw (p .1, p .3, p .2)
 
-open-verdict : (h : Held) (c : Completion) → Sound h → c .requester ≡ h .bridge .settings .requester → missingOf (h .bridge) (c .tag) ≢ 0 → 8 ≤ ownerOf (h .bridge) (c .tag)
-    → verdictOf (h .bridge) c ≡ configVerdict c (h .bridge .core .config .write)
+open-verdict : (h : Held) (c : Completion) → Sound h → c .requester ≡ h .bridge .settings .requester → Open (h .bridge) (c .tag) → 8 ≤ ownerOf (h .bridge) (c .tag)
+    → verdictOf (h .bridge) c ≡ configVerdict c (isWrite (h .bridge) (c .tag))
 unfolding verdictOf
 open-verdict h c v e m l = rw (eq-eqb _ _ e, ne-eqb _ _ m, le-leb _ _ (v .tags (c .tag) m .whole), le-ltb _ _ l)
 
--- ---- the tables after a completion
+-- ---- the columns after a completion
 
 completed-config : (b : Bridge) (t : ℕ) (payload : List ℕ) (v : Verdict) → configCompleted b t payload v .core .config ≡ configAnswer (b .core .config) payload v
 unfolding configCompleted freed shut
@@ -77,14 +77,14 @@ completed-gone : (b : Bridge) (t : ℕ) (payload : List ℕ) (v : Verdict) → m
 unfolding configCompleted freed shut
 completed-gone b t payload v = set-gone (b .missing) t
 
-good-answer : (c : ConfigSlot) (payload : List ℕ) → (configAnswer c payload (Good 4) .response ≡ 0) × (configAnswer c payload (Good 4) .write ≡ c .write)
+good-answer : (c : ConfigSlot) (payload : List ℕ) → configAnswer c payload (Good 4) .response ≡ 0
 unfolding configAnswer
-good-answer c payload = (refl, refl)
+good-answer c payload = refl
 
 module _ (sent : ℕ → List (List ℕ)) (r : ℕ) where
   -- a good completion still comes
   abbrev pub Word : Bridge → ℕ → List (List ℕ) → Type 0
-  Word b t l = anyGoodWord r (b .core .config .write) l ≡ true
+  Word b t l = anyGoodWord r (isWrite b t) l ≡ true
 
   abbrev pub Clean : Bridge → Type 0
   Clean b = (b .core .config .response ≡ 0) × (b .settings .requester ≡ r)
@@ -108,19 +108,19 @@ module _ (sent : ℕ → List (List ℕ)) (r : ℕ) where
     last : l ≡ []
     last = only-one s l (subst (λ (x : List (List ℕ)). length x ≤ 1) (q .first) (q .wired .tags t .opens (q .opens .0) .word slot))
 
-    good : isGoodWord r (b .core .config .write) (Header c) ≡ true
-    good = subst (λ (x : CompletionRead). isGoodWord r (b .core .config .write) x ≡ true) (q .reads) (due-good r (b .core .config .write) s l last (q .due))
+    good : isGoodWord r (isWrite b t) (Header c) ≡ true
+    good = subst (λ (x : CompletionRead). isGoodWord r (isWrite b t) x ≡ true) (q .reads) (due-good r (isWrite b t) s l last (q .due))
 
-    verdict : configVerdict c (b .core .config .write) ≡ Good 4
-    verdict = word-verdict r (b .core .config .write) c good
+    verdict : configVerdict c (isWrite b t) ≡ Good 4
+    verdict = word-verdict r (isWrite b t) c good
 
     missed : verdictOf b c ≡ Unexpected → Word b t l
     missed u =
-        let e = word-parts r (b .core .config .write) c good .0 ∙ sym (q .clean .1) in
+        let e = word-parts r (isWrite b t) c good .0 ∙ sym (q .clean .1) in
         no-path (let y : Good 4 ≡ Unexpected = sym verdict ∙ (sym (open-verdict h c (q .sound) e (q .opens .0) slot) ∙ u) in cc)
 
     hit : Hit sent 8 most Word Clean b (configCompleted b t (drop 12 s) (Good 4)) t l
-    hit = record { clean = (ap (λ (x : ConfigSlot). x .response) config ∙ answer .0, ap (λ (x : Settings). x .requester) (p .settings) ∙ q .clean .1); own = λ o. absurd (o .0 (completed-gone b t (drop 12 s) (Good 4))); others = others }
+    hit = record { clean = (ap (λ (x : ConfigSlot). x .response) config ∙ good-answer (b .core .config) (drop 12 s), ap (λ (x : Settings). x .requester) (p .settings) ∙ q .clean .1); own = λ o. absurd (o .0 (completed-gone b t (drop 12 s) (Good 4))); others = others }
       where
         x : Bridge
         x = configCompleted b t (drop 12 s) (Good 4)
@@ -128,21 +128,18 @@ module _ (sent : ℕ → List (List ℕ)) (r : ℕ) where
         config : x .core .config ≡ configAnswer (b .core .config) (drop 12 s) (Good 4)
         config = completed-config b t (drop 12 s) (Good 4)
 
-        answer : (configAnswer (b .core .config) (drop 12 s) (Good 4) .response ≡ 0) × (configAnswer (b .core .config) (drop 12 s) (Good 4) .write ≡ b .core .config .write)
-        answer = good-answer (b .core .config) (drop 12 s)
-
         p : Moved 8 t (coreIn (withConfig (configAnswer (b .core .config) (drop 12 s) (Good 4)) (b .core)) b) x
         p = completed-moved b t (drop 12 s) (Good 4)
 
         others : (u : ℕ) → u ≢ t → OpenFor x 8 u → OpenFor b 8 u × ((m : List (List ℕ)) → Word b u m → Word x u m)
         others u d o = (
           (λ z. o .0 (p .missing u d ∙ z), sym (ap (λ (y : List ℕ). getD y u 0) (p .owner)) ∙ o .1),
-          λ m e. subst (λ (y : Bool). anyGoodWord r y m ≡ true) (sym (ap (λ (y : ConfigSlot). y .write) config ∙ answer .1)) e,
+          λ m e. subst (λ (y : List ℕ). anyGoodWord r (eqb (getD y u 0) configWrite) m ≡ true) (sym (p .kind)) e,
         )
 
   pub config-rules : Rules sent 8 most Word Clean
   config-rules = record {
-    calm-due = λ b x p t o l e. subst (λ (y : ConfigSlot). anyGoodWord r (y .write) l ≡ true) (sym (p .config refl)) e;
+    calm-due = λ b x p t o l e. subst (λ (y : ℕ). anyGoodWord r (eqb y configWrite) l ≡ true) (sym (p .tags t o .kind)) e;
     calm-clean = λ b x p e. (ap (λ (y : ConfigSlot). y .response) (p .config refl) ∙ e .0, ap (λ (y : Settings). y .requester) (p .settings) ∙ e .1);
     miss = λ h w es i s c q u. missed h w es i s c q u;
     memory = λ h w es i s c v q l e u. let z = q .opens .1 in absurd (omega (arith, z, l));

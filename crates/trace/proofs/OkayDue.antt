@@ -12,15 +12,15 @@ use lib.Dec.{eqb}
 use Rattle.tlp.specs.declared.completion.Completion.{Completion}
 use Rattle.tlp.specs.declared.completion.CompletionRead.{CompletionRead}
 use Rattle.tlp.specs.declared.completion.CompletionRead.the-variants.{Header, Malformed}
-use Rattle.bridge.specs.declared.Bridge.{Bridge}
+use Rattle.machine.specs.Bridge.{Bridge}
 use Rattle.verdict.specs.declared.Verdict.{Verdict}
 use Rattle.verdict.specs.declared.Verdict.the-variants.{Unexpected}
-use Rattle.bridge.specs.State.{tagCount, withRegisters, coreIn, missingOf, ownerOf}
-use Rattle.bridge.specs.Verdict.{memoryVerdict, configVerdict}
-use Rattle.bridge.specs.Completions.{Held, held, memoryCompleted, configCompleted, nextAddress, verdictOf, completionOf, isUnexpected}
-use Rattle.bridge.specs.Ticks.{linkIn}
-use Rattle.bridge.specs.Take.{stateOf}
-use Rattle.bridge.proofs.Judging.{never}
+use Rattle.machine.specs.State.{tagCount, withRegisters, coreIn, missingOf, ownerOf, Open, isWrite}
+use Rattle.machine.specs.Verdict.{memoryVerdict, configVerdict}
+use Rattle.machine.specs.Completions.{Held, held, memoryCompleted, configCompleted, nextAddress, verdictOf, completionOf, isUnexpected}
+use Rattle.machine.specs.Ticks.{linkIn}
+use Rattle.machine.specs.Take.{stateOf}
+use Rattle.machine.proofs.Judging.{never}
 use Rattle.trace.specs.Events as event
 use Rattle.trace.specs.Events.{Event}
 use Rattle.trace.specs.FarSide.{Ask, Wire, sending, wireAfter, PairedBy, Paired, paired}
@@ -78,7 +78,7 @@ module _ (sent : ℕ → List (List ℕ)) (k : ℕ) (small : k ≤ 8) (P : Bridg
         → ownerOf (h .bridge) (c .tag) < 8 → memoryVerdict c (missingOf (h .bridge) (c .tag)) (nextAddress (h .bridge) (c .tag)) ≡ v → isUnexpected v ≡ false
         → Hit (h .bridge) (memoryCompleted h (c .tag) (ownerOf (h .bridge) (c .tag)) (c .lower % 4) (drop 12 s) v .bridge) (c .tag) (paired (ownOf (w .live) (c .tag)) es)
     pub config : (h : Held) (w : Wire) (es : List Event) (i : ℕ) (s : List ℕ) (c : Completion) (v : Verdict) → Comes h w es i s c
-        → 8 ≤ ownerOf (h .bridge) (c .tag) → configVerdict c (h .bridge .core .config .write) ≡ v → isUnexpected v ≡ false
+        → 8 ≤ ownerOf (h .bridge) (c .tag) → configVerdict c (isWrite (h .bridge) (c .tag)) ≡ v → isUnexpected v ≡ false
         → Hit (h .bridge) (configCompleted (h .bridge) (c .tag) (drop 12 s) v) (c .tag) (paired (ownOf (w .live) (c .tag)) es)
 
   -- the access goes on: its answer so far is right, and what is due is still to come
@@ -91,7 +91,7 @@ module _ (sent : ℕ → List (List ℕ)) (k : ℕ) (small : k ≤ 8) (P : Bridg
         → ((t : ℕ) → OpenFor b k t → paired (ownOf (w' .live) t) es ≡ paired (ownOf (w .live) t) (e ∷ es)) → On b w (e ∷ es) → On x w' es
     calm-on b x w w' e es p f o = record {
       clean = rules .calm-clean b x p (o .clean);
-      due = λ t q. let r = p .tags t q .0 in rules .calm-due b x p t q (paired (ownOf (w' .live) t) es) (subst (P b t) (sym (f t r)) (o .due t r));
+      due = λ t q. let r = p .tags t q .opens in rules .calm-due b x p t q (paired (ownOf (w' .live) t) es) (subst (P b t) (sym (f t r)) (o .due t r));
     }
 
     module _ (h : Held) (w : Wire) (es : List Event) (v : Sound h) where
@@ -103,7 +103,7 @@ module _ (sent : ℕ → List (List ℕ)) (k : ℕ) (small : k ≤ 8) (P : Bridg
         abbrev e : Event
         e = event.completion i s
 
-        elsewhere : (c : Completion) → completionOf s ≡ Header c → (t : ℕ) → missingOf b t ≢ 0 → t ≢ c .tag → paired (ownOf (w .live) t) (e ∷ es) ≡ paired (ownOf (w .live) t) es
+        elsewhere : (c : Completion) → completionOf s ≡ Header c → (t : ℕ) → Open b t → t ≢ c .tag → paired (ownOf (w .live) t) (e ∷ es) ≡ paired (ownOf (w .live) t) es
         elsewhere c r t m n =
             paired-other (ownOf (w .live) t) i s es
             (λ z. n (d .labels .once i t (c .tag) (subst (λ (j : ℕ). At j t (w .live)) z (d .tags t .opens m .here)) (subst (PairedBy w i) r p)))
@@ -142,14 +142,14 @@ module _ (sent : ℕ → List (List ℕ)) (k : ℕ) (small : k ≤ 8) (P : Bridg
         other-on : (c : Completion) → completionOf s ≡ Header c → (x : Bridge) → ownerOf b (c .tag) ≢ k → Calm k b x → On x w es
         other-on c r x n g = calm-on b x w w e es g (λ t q. sym (elsewhere c r t (q .0) (λ z. n (ap (ownerOf b) (sym z) ∙ q .1)))) o
 
-        memory-on : (c : Completion) (u : Verdict) → completionOf s ≡ Header c → missingOf b (c .tag) ≢ 0 → ownerOf b (c .tag) < 8
+        memory-on : (c : Completion) (u : Verdict) → completionOf s ≡ Header c → Open b (c .tag) → ownerOf b (c .tag) < 8
             → memoryVerdict c (missingOf b (c .tag)) (nextAddress b (c .tag)) ≡ u → isUnexpected u ≡ false → Dec (ownerOf b (c .tag) ≡ k)
             → On (memoryCompleted h (c .tag) (ownerOf b (c .tag)) (c .lower % 4) (drop 12 s) u .bridge) w es
         memory-on c u r m l f g (yes z) = hit-on c r _ (m, z) (rules .memory h w es i s c u (comes c r (m, z)) l f g)
         memory-on c u r m l f g (no z) = other-on c r _ z (memory-calm k h (c .tag) (c .lower % 4) (drop 12 s) u z)
 
-        config-on : (c : Completion) (u : Verdict) → completionOf s ≡ Header c → missingOf b (c .tag) ≢ 0 → 8 ≤ ownerOf b (c .tag)
-            → configVerdict c (b .core .config .write) ≡ u → isUnexpected u ≡ false → Dec (ownerOf b (c .tag) ≡ k)
+        config-on : (c : Completion) (u : Verdict) → completionOf s ≡ Header c → Open b (c .tag) → 8 ≤ ownerOf b (c .tag)
+            → configVerdict c (isWrite b (c .tag)) ≡ u → isUnexpected u ≡ false → Dec (ownerOf b (c .tag) ≡ k)
             → On (configCompleted b (c .tag) (drop 12 s) u) w es
         config-on c u r m l f g (yes z) = hit-on c r _ (m, z) (rules .config h w es i s c u (comes c r (m, z)) l f g)
         config-on c u r m l f g (no z) =

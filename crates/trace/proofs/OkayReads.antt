@@ -5,20 +5,20 @@ use mathlib.Core.Logic.{inl, inr, _≢_}
 use mathlib.Core.List.{List, _∷_}
 use mathlib.Core.Bool.{Bool, true, false, cond, not, _&&_}
 use native.Mathlib.Omega.{arith}
-use lib.ListN.{length, getD, set, drop}
+use lib.ListN.{length, getD, drop}
 use lib.Seq.{paste}
 use lib.Dec.{ltb, leb, eqb}
 use borrow.Author.Tests.{eqb-true, eq-eqb, ne-eqb, ltb-true, lt-ltb, le-leb, not-true}
 use Rattle.common.proofs.Tests.{and-left, and-right}
 use Rattle.tlp.specs.declared.completion.Completion.{Completion}
 use Rattle.address.specs.declared.Settings.{Settings}
-use Rattle.bridge.specs.declared.Bridge.{Bridge}
+use Rattle.machine.specs.Bridge.{Bridge}
 use Rattle.verdict.specs.declared.Verdict.{Verdict}
 use Rattle.verdict.specs.declared.Verdict.the-variants.{Unexpected, Good, Poisoned, Failed}
-use Rattle.bridge.specs.State.{missingOf, placeOf, ownerOf, slotsIn, counted, shut, freed}
-use Rattle.bridge.specs.Verdict.{useful, memoryVerdict}
-use Rattle.bridge.specs.Completions.{Held, held, finished, pieceClosed, closed, advanced, usefulBytes, memoryCompleted, nextAddress, verdictOf, completionOf, isUnexpected}
-use Rattle.bridge.proofs.Judging.{never}
+use Rattle.machine.specs.State.{setPieces, missingOf, ownerOf, placeOf, Open, counted, shut, freed}
+use Rattle.machine.specs.Verdict.{useful, memoryVerdict}
+use Rattle.machine.specs.Completions.{Held, held, finished, pieceClosed, closed, advanced, usefulBytes, memoryCompleted, nextAddress, verdictOf, completionOf, isUnexpected}
+use Rattle.machine.proofs.Judging.{never}
 use Rattle.bridge_laws.proofs.Counting.{counts-down}
 use Rattle.bridge_laws.proofs.Goodness.{good-exactly}
 use Rattle.trace.specs.Events as event
@@ -41,7 +41,7 @@ unfolding pieceClosed finished
 piece-cause k h = by (leb (getD (h .bridge .pieces) k 0) 1)
   where
     by : (z : Bool)
-        → cond z (finished k h) (held (slotsIn (h .bridge .state) (h .bridge .start) (h .bridge .size) (set (h .bridge .pieces) k (getD (h .bridge .pieces) k 0 - 1)) (h .bridge .fault) (h .bridge .cause) (h .bridge)) (h .store)) .bridge .cause
+        → cond z (finished k h) (held (setPieces k (getD (h .bridge .pieces) k 0 - 1) (h .bridge)) (h .store)) .bridge .cause
         ≡ h .bridge .cause
     by true = refl
     by false = refl
@@ -86,7 +86,7 @@ good-verdict r a n next c z g =
       length = let q = p .3 in omega (arith, g .count);
     })
 
-open-verdict : (h : Held) (c : Completion) → Sound h → c .requester ≡ h .bridge .settings .requester → missingOf (h .bridge) (c .tag) ≢ 0 → ownerOf (h .bridge) (c .tag) < 8
+open-verdict : (h : Held) (c : Completion) → Sound h → c .requester ≡ h .bridge .settings .requester → Open (h .bridge) (c .tag) → ownerOf (h .bridge) (c .tag) < 8
     → verdictOf (h .bridge) c ≡ memoryVerdict c (missingOf (h .bridge) (c .tag)) (nextAddress (h .bridge) (c .tag))
 unfolding verdictOf
 open-verdict h c v e m l = rw (eq-eqb _ _ e, ne-eqb _ _ m, le-leb _ _ (v .tags (c .tag) m .whole), lt-ltb _ _ l)
@@ -166,7 +166,8 @@ module _ (sent : ℕ → List (List ℕ)) (r k : ℕ) (small : k < 8) where
 
         here : goodBytes r l ≡ missingOf after t
         here =
-            let z = counts-down h t (ownerOf b t) (c .lower % 4) n (drop 12 s) below (omega (arith, below, q .sound .sizes .missing, q .sound .sizes .place)) (Good n) (inl refl) .0 in
+            let a = q .sound .sizes in
+            let z = counts-down h t (ownerOf b t) (c .lower % 4) n (drop 12 s) below (omega (arith, below, a .missing, a .place)) (Good n) (inl refl) .missing in
             let d : goodBy r (completionOf s) + goodBytes r l ≡ missingOf b t = q .due in
             let y : goodBytes r l ≡ missingOf b t - n = omega (arith, good-now f, d) in
             y ∙ sym z
@@ -179,7 +180,7 @@ module _ (sent : ℕ → List (List ℕ)) (r k : ℕ) (small : k < 8) where
 
   pub read-rules : Rules sent k most Bytes Clean
   read-rules = record {
-    calm-due = λ b x p t o l e. e ∙ sym (p .tags t o .1);
+    calm-due = λ b x p t o l e. e ∙ sym (p .tags t o .missing);
     calm-clean = λ b x p e. (p .cause ∙ e .0, ap (λ (y : Settings). y .requester) (p .settings) ∙ e .1);
     miss = λ h w es i s c q u. miss-by h w es i s c q u (carries c) refl;
     memory = λ h w es i s c v q l e u.

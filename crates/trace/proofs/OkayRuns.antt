@@ -5,9 +5,9 @@ use mathlib.Core.Logic.{inl, inr}
 use mathlib.Core.List.{List, [], _∷_}
 use native.Mathlib.Omega.{arith}
 use Rattle.address.specs.declared.Settings.{Settings}
-use Rattle.bridge.specs.declared.Bridge.{Bridge}
-use Rattle.bridge.specs.Completions.{Held}
-use Rattle.bridge.specs.Take.{stateOf}
+use Rattle.machine.specs.Bridge.{Bridge}
+use Rattle.machine.specs.Completions.{Held}
+use Rattle.machine.specs.Take.{stateOf}
 use Rattle.trace.specs.Events.{Event, step}
 use Rattle.trace.specs.FarSide.{Wire, wireAfter, Along}
 use Rattle.trace.specs.Claims.{AnsweredOkay, Until, isTick, ticks, Steady}

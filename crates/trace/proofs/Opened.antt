@@ -1,5 +1,5 @@
 -- An accepted read, and a configuration access that goes out: the tags that they take are open for their requests.
-use Prim.Native.Nat.{ℕ, zero, suc, _+_, _-_, _%_, _≤_, _<_}
+use Prim.Native.Nat.{ℕ, zero, suc, _+_, _%_, _≤_, _<_}
 use mathlib.Core.Path.{_≡_, refl, sym, ap, _∙_}
 use mathlib.Core.Logic.{_≢_, _⊎_, inl, inr}
 use mathlib.Core.List.{List, [], _∷_, map}
@@ -22,19 +22,19 @@ use Rattle.burst.specs.Bursts.{lengthOf}
 use Rattle.burst.specs.Pieces.{addresses}
 use Rattle.burst.proofs.Pieces.{accepted-covers, blocks-of}
 use Rattle.burst.proofs.Tiling.{piece-not-empty, piece-within}
-use Rattle.bridge.specs.declared.Bridge.{Bridge}
-use Rattle.bridge.specs.State.{tagCount, withConfig, coreIn, okay, missingOf, placeOf, ownerOf, opened, freeSlotFrom, freeSlot}
-use Rattle.bridge.specs.Memory.{pcieOf, piecesOf, pieceOf, placeIn, readRefusal, claimed, readTo, readBridge}
-use Rattle.bridge.specs.Config.{Access, routeOf, goesOut, configRefusal, routedBridge}
-use Rattle.bridge.specs.Completions.{Held, held, nextAddress}
-use Rattle.bridge_laws.specs.MemoryLaws.{Routed, tagOf, Tables, ReadOpens, ReadSends}
+use Rattle.burst.specs.Words.{lowerAddress}
+use Rattle.parts.specs.declared.Pending.{Pending}
+use Rattle.machine.specs.Bridge.{Bridge}
+use Rattle.machine.specs.State.{tagCount, missingOf, ownerOf, placeOf, kindOf, Open, opened, freeSlot, freeSlotFrom}
+use Rattle.machine.specs.Memory.{pcieOf, piecesOf, pieceOf, readRefusal, claimed, readTo, readBridge, piecePending}
+use Rattle.machine.specs.Config.{Access, routeOf, goesOut, configRefusal, routedBridge, configClaimed, wordPending}
+use Rattle.machine.specs.Completions.{Held, held, nextAddress}
+use Rattle.bridge_laws.specs.MemoryLaws.{tagOf, Tables, ReadOpens, ReadSends}
 use Rattle.parts.proofs.Slots.{inside}
-use Rattle.bridge.proofs.Refusals.{read-ok}
-use Rattle.bridge_laws.proofs.Behind.{low-bits-behind}
-use Rattle.bridge_laws.proofs.Kept.{accepted-read-keeps}
+use Rattle.machine.proofs.Refusals.{read-ok}
 use Rattle.bridge_laws.proofs.Stored.{accepted-read-opens}
 use Rattle.bridge_laws.proofs.Sends.{turn, accepted-read-sends}
-use Rattle.bridge.proofs.Configs.{passed}
+use Rattle.machine.proofs.Configs.{passed}
 use Rattle.trace.specs.Events.{Event, read, config}
 use Rattle.trace.specs.FarSide.{word, Ask, askOf, asked, Wire, sending, AllAnswered}
 use Rattle.trace.specs.Sound.{Sizes, Sound}
@@ -76,31 +76,42 @@ pub record Untouched (b x : Bridge) (u : ℕ) : Type 0 where
   pub missing : missingOf x u ≡ missingOf b u
   pub owner : ownerOf x u ≡ ownerOf b u
   pub place : placeOf x u ≡ placeOf b u
+  pub next : nextAddress x u ≡ nextAddress b u
+  pub kind : kindOf x u ≡ kindOf b u
   pub free : isSet (x .core .free) u ≡ isSet (b .core .free) u
 
-pub opened-other : (slot place n : ℕ) (b : Bridge) (u : ℕ) → u ≢ lowest tagCount (b .core .free) → Untouched b (opened slot place n b) u
+pub opened-other : (r : Pending) (b : Bridge) (u : ℕ) → u ≢ lowest tagCount (b .core .free) → Untouched b (opened r b) u
 unfolding opened
-opened-other slot place n b u d =
+opened-other r b u d =
     let t = lowest tagCount (b .core .free) in
     record {
-      missing = getD-set-other (b .missing) t u n 0 d;
-      owner = getD-set-other (b .owner) t u slot 0 d;
-      place = getD-set-other (b .place) t u place 0 d;
+      missing = getD-set-other (b .missing) t u (r .missing) 0 d;
+      owner = getD-set-other (b .owner) t u (r .slot) 0 d;
+      place = getD-set-other (b .place) t u (r .place) 0 d;
+      next = getD-set-other (b .next) t u (r .next) 0 d;
+      kind = getD-set-other (b .kind) t u (r .kind) 0 d;
       free = clear-clears (b .core .free) t .others u d;
     }
 
 untouched-then : (b x y : Bridge) (u : ℕ) → Untouched b x u → Untouched x y u → Untouched b y u
 untouched-then b x y u p q =
-    record { missing = q .missing ∙ p .missing; owner = q .owner ∙ p .owner; place = q .place ∙ p .place; free = q .free ∙ p .free }
+    record {
+      missing = q .missing ∙ p .missing;
+      owner = q .owner ∙ p .owner;
+      place = q .place ∙ p .place;
+      next = q .next ∙ p .next;
+      kind = q .kind ∙ p .kind;
+      free = q .free ∙ p .free;
+    }
 
 turns-other : (b : Bridge) (q : Burst) (slot u : ℕ) → piecesOf (b .settings .reads) q ≤ available tagCount (b .core .free)
     → (k : ℕ) → k ≤ piecesOf (b .settings .reads) q → ((j : ℕ) → j < k → tagOf b j ≢ u) → Untouched b (readTo slot q b k) u
 unfolding readTo
-turns-other b q slot u l zero h f = record { missing = refl; owner = refl; place = refl; free = refl }
+turns-other b q slot u l zero h f = record { missing = refl; owner = refl; place = refl; next = refl; kind = refl; free = refl }
 turns-other b q slot u l (suc k) h f =
     let x = readTo slot q b k in
     untouched-then b x (readTo slot q b (suc k)) u (turns-other b q slot u l k (omega arith) (λ j g. f j (omega arith)))
-    (opened-other slot (placeIn q (pieceOf (b .settings .reads) q k)) (pieceOf (b .settings .reads) q k .length) x u
+    (opened-other (piecePending slot (b .settings) q (pieceOf (b .settings .reads) q k)) x u
     (λ e. f k (omega arith) (sym (turn b q slot l k (omega arith)) ∙ sym e)))
 
 pub reads-other : (b : Bridge) (q : Burst) (u : ℕ) → piecesOf (b .settings .reads) q ≤ available tagCount (b .core .free)
@@ -108,7 +119,7 @@ pub reads-other : (b : Bridge) (q : Burst) (u : ℕ) → piecesOf (b .settings .
 unfolding claimed
 reads-other b q u l f =
     let x = turns-other (claimed (freeSlot b) q b) q (freeSlot b) u l (piecesOf (b .settings .reads) q) (omega arith) f in
-    record { missing = x .missing; owner = x .owner; place = x .place; free = x .free }
+    record { missing = x .missing; owner = x .owner; place = x .place; next = x .next; kind = x .kind; free = x .free }
 
 -- ---- the pieces of a read
 
@@ -129,10 +140,10 @@ piece-fits b q room j r e h =
 
 pub tables-of : (b : Bridge) → Sizes b → Tables b
 tables-of b s =
-    record { missing = s .missing; sent = s .sent; owner = s .owner; place = s .place; state = s .state; start = s .start; size = s .size; pieces = s .pieces; fault = s .fault; cause = s .cause }
+    record { missing = s .missing; sent = s .sent; owner = s .owner; place = s .place; next = s .next; kind = s .kind; state = s .state; size = s .size; pieces = s .pieces; fault = s .fault; cause = s .cause }
 
 -- no open tag names a slot in which no read is open
-pub unnamed : (h : Held) (k : ℕ) → Sound h → k < 8 → getD (h .bridge .state) k 0 ≢ 1 → (t : ℕ) → missingOf (h .bridge) t ≢ 0 → ownerOf (h .bridge) t ≢ k
+pub unnamed : (h : Held) (k : ℕ) → Sound h → k < 8 → getD (h .bridge .state) k 0 ≢ 1 → (t : ℕ) → Open (h .bridge) t → ownerOf (h .bridge) t ≢ k
 unnamed h k s l n t m o =
     let z = s .count k ∙ pieces-not (h .bridge) k (λ e. n (sym (state-below (h .bridge) k l) ∙ e)) in
     no-way (sym (is-named (h .bridge) k t m o) ∙ open-none (h .bridge) k tagCount t z (tag-below (h .bridge) t (s .sizes) m))
@@ -155,8 +166,8 @@ free-slot-free h q room s e =
 
 -- ---- an accepted read
 
-low-bits : (p f s : ℕ) → s ≤ f → p % 4096 ≡ f % 4096 → p % 128 ≡ (s % 4096 + (f - s)) % 128
-low-bits p f s l e = omega arith
+low-twice : (x y : ℕ) → y ≡ lowerAddress x → x % 128 ≡ y % 128
+low-twice x y e = omega arith
 
 module _ (sent : ℕ → List (List ℕ)) (h : Held) (q : Burst) (room : ℕ) (s : Sound h) (e : readRefusal (h .bridge) q room ≡ 0) where
   abbrev b : Bridge
@@ -183,31 +194,16 @@ module _ (sent : ℕ → List (List ℕ)) (h : Held) (q : Burst) (room : ℕ) (s
   pub turn-opens : (j : ℕ) → j < piecesOf (b .settings .reads) q → OpensAs x (askOf b q j .tag) (askOf b q j .wanted)
   turn-opens j l =
       let o = opens-read in
-      let ok = read-ok b q room e in
-      let p = pieceOf (b .settings .reads) q j in
-      let f = piece-fits b q room j (s .right) e l in
-      let own : ownerOf x (tagOf b j) ≡ freeSlot b = o .owner j l in
-      let r : Routed (b .settings) q = record { settings = s .right; burst = ok .burst; window = ok .window } in
-      let lo = low-bits-behind (b .settings) q r (p .first) (f .starts, omega (arith, f .ends, f .some)) in
-      let z : nextAddress x (tagOf b j) ≡ q .start .0 % 4096 + (p .first - q .start .0) = rw (own, o .start, o .place j l) in (
-        omega (arith, ok .slot),
+      let own : ownerOf x (tagOf b j) ≡ freeSlot b = o .owner j l in (
+        omega (arith, read-ok b q room e .slot),
         o .missing j l,
-        low-bits (pcieOf (b .settings .windows) q (p .first)) (p .first) (q .start .0) (f .starts) lo ∙ ap (λ (y : ℕ). y % 128) (sym z),
+        low-twice (pcieOf (b .settings .windows) q (pieceOf (b .settings .reads) q j .first)) (nextAddress x (tagOf b j)) (o .next j l),
       )
 
   kept-other : (u : ℕ) → ((j : ℕ) → j < piecesOf (b .settings .reads) q → tagOf b j ≢ u) → TagKept b x u
   kept-other u f =
       let y = reads-other b q u (read-ok b q room e .tags) f in
-      let ok = read-ok b q room e in
-      let st : getD (b .state) (freeSlot b) 0 ≢ 1 = λ z. omega (arith, free-slot-free h q room s e) in
-      record {
-        missing = y .missing;
-        owner = y .owner;
-        next = λ m o.
-            let k = accepted-read-keeps b q room e .start (ownerOf b u) (unnamed h (freeSlot b) s (ok .slot) st u m) in
-            ap (λ (z : ℕ). getD (x .start) z 0 + placeOf x u) (y .owner) ∙ (ap (λ (z : ℕ). z + placeOf x u) k ∙ ap (λ (z : ℕ). getD (b .start) (ownerOf b u) 0 + z) (y .place));
-        free = λ z. sym (y .free) ∙ z;
-      }
+      record { missing = y .missing; owner = y .owner; next = y .next; kind = y .kind; free = λ z. sym (y .free) ∙ z }
 
   module _ (w : Wire) (es : List Event) (after : Sound (held x (h .store))) (v : Wired sent h w (read q room ∷ es)) (a : AllAnswered sent (w .count) (turns b q)) where
     now : Wired sent h w es
@@ -217,7 +213,7 @@ module _ (sent : ℕ → List (List ℕ)) (h : Held) (q : Burst) (room : ℕ) (s
     fine-turn j l =
         let y = turn-is b q j l in
         let t = sends-read .free j l in
-        let n : missingOf x (tagOf b j) ≢ 0 = λ z. omega (arith, opens-read .missing j l, piece-fits b q room j (s .right) e l .some) in
+        let n : Open x (tagOf b j) = λ z. omega (arith, opens-read .missing j l, piece-fits b q room j (s .right) e l .some) in
         fine-new sent x w es (turns b q) j turns-distinct (omega (arith, turns-many b q)) (now .labels) a
         (rw y (now .tags (tagOf b j) .quiet (t .free) (t .below)))
         (rw y (after .tags (tagOf b j) n .used))
@@ -252,14 +248,8 @@ module _ (sent : ℕ → List (List ℕ)) (h : Held) (a : Access) (room : ℕ) (
   word-kept : (u : ℕ) → u ≢ tag → TagKept (h .bridge) (routedBridge (h .bridge) a) u
   unfolding routedBridge opened
   word-kept u d =
-      let c = coreIn (withConfig (record { state = 1; write = a .write; response = okay; word = 0 }) (h .bridge .core)) (h .bridge) in
-      let y = opened-other 8 0 4 c u d in
-      record {
-        missing = y .missing;
-        owner = y .owner;
-        next = λ m k. ap (λ (z : ℕ). getD (h .bridge .start) z 0 + placeOf (routedBridge (h .bridge) a) u) (y .owner) ∙ ap (λ (z : ℕ). getD (h .bridge .start) (ownerOf (h .bridge) u) 0 + z) (y .place);
-        free = λ z. sym (y .free) ∙ z;
-      }
+      let y = opened-other (wordPending (a .write)) (configClaimed a (h .bridge)) u d in
+      record { missing = y .missing; owner = y .owner; next = y .next; kind = y .kind; free = λ z. sym (y .free) ∙ z }
 
   pub word-owner : ownerOf (routedBridge (h .bridge) a) tag ≡ 8
   unfolding routedBridge opened

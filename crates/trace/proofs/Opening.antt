@@ -1,5 +1,5 @@
 -- Opening pieces: an accepted read and a routed configuration access keep what holds of every state.
-use Prim.Native.Nat.{ℕ, zero, suc, _+_, _-_, _*_, _%_, _^_, _≤_, _<_}
+use Prim.Native.Nat.{ℕ, zero, suc, _+_, _-_, _*_, _^_, _≤_, _<_}
 use mathlib.Core.Path.{_≡_, refl, sym, ap, _∙_, subst}
 use mathlib.Core.Logic.{_⊎_, inl, inr, _≢_}
 use mathlib.Core.List.{List, [], _∷_}
@@ -21,16 +21,17 @@ use Rattle.burst.specs.Bursts.{lengthOf}
 use Rattle.burst.specs.Pieces.{pieceCount}
 use Rattle.burst.proofs.Pieces.{accepted-covers, blocks-of}
 use Rattle.burst.proofs.Tiling.{piece-not-empty, piece-within}
-use Rattle.bridge.specs.declared.Bridge.{Bridge}
-use Rattle.bridge.specs.State.{tagCount, withConfig, coreIn, missingOf, placeOf, ownerOf, registersOf, opened, freeSlot, freeSlotFrom, okay}
-use Rattle.bridge.specs.Memory.{piecesOf, pieceOf, placeIn, readRefusal, claimed, readTo, readBridge}
-use Rattle.bridge.specs.Config.{Access, routeOf, goesOut, configRefusal, routedBridge}
-use Rattle.bridge.specs.Take.{stateIn, stateOf}
-use Rattle.bridge.proofs.Judging.{never}
+use Rattle.parts.specs.declared.Pending.{Pending}
+use Rattle.machine.specs.Bridge.{Bridge}
+use Rattle.machine.specs.State.{tagCount, slotCount, slotSize, configSlot, missingOf, ownerOf, placeOf, Open, opened, freeSlot, freeSlotFrom, registersOf}
+use Rattle.machine.specs.Memory.{piecesOf, pieceOf, readRefusal, claimed, readTo, readBridge, piecePending}
+use Rattle.machine.specs.Config.{Access, routeOf, goesOut, configRefusal, routedBridge, configClaimed, wordPending}
+use Rattle.machine.specs.Take.{stateIn, stateOf}
+use Rattle.machine.proofs.Judging.{never}
 use Rattle.parts.proofs.Slots.{inside}
-use Rattle.bridge.proofs.Refusals.{ReadOk, read-ok}
+use Rattle.machine.proofs.Refusals.{ReadOk, read-ok}
 use Rattle.bridge_laws.proofs.Kept.{Opens, tags-left, opens-all}
-use Rattle.bridge.proofs.Configs.{passed}
+use Rattle.machine.proofs.Configs.{passed}
 use Rattle.trace.specs.Sound.{named, openIn, piecesIn, Sizes}
 use Rattle.trace.proofs.Counts.{named-same, is-named, closed-unnamed, other-unnamed, open-same, open-more, open-none}
 use Rattle.trace.proofs.Settling.{TagFits, Fine, state-below, state-config, state-same, pieces-same, pieces-open, pieces-not, owner-open, tag-below, core-sizes}
@@ -44,7 +45,7 @@ record FineBut (slot m : ℕ) (b : Bridge) : Type 0 where
   right : settingsNumber (b .settings) ≡ 0
   sizes : Sizes b
   clock : b .core .ticks < 2 ^ 32
-  tags : (t : ℕ) → missingOf b t ≢ 0 → TagFits b t
+  tags : (t : ℕ) → Open b t → TagFits b t
   count : (k : ℕ) → openIn b k tagCount + owed slot m k ≡ piecesIn b k
   alive : (k : ℕ) → k < 8 → getD (b .state) k 0 ≡ 1 → 0 < getD (b .pieces) k 0
   fits : (k : ℕ) → k < 8 → getD (b .state) k 0 ≢ 0 → getD (b .size) k 0 ≤ 4096
@@ -82,12 +83,12 @@ pub lowest-free : (b : Bridge) → 0 < available tagCount (b .core .free) → Fr
 lowest-free b h = let l = lowest-is tagCount (b .core .free) h in record { low = l .tag .below; free = l .tag .free }
 
 -- what an open piece holds
-record Room (b : Bridge) (slot place n : ℕ) : Type 0 where
-  some : 0 < n
-  whole : place + n ≤ 4096
-  inside-slot : slot < 8 → place + n ≤ getD (b .size) slot 0
+record Room (b : Bridge) (p : Pending) : Type 0 where
+  some : 0 < p .missing
+  whole : p .place + p .missing ≤ slotSize
+  inside-slot : p .slot < slotCount → p .place + p .missing ≤ getD (b .size) (p .slot) 0
 
-module _ (slot m place n : ℕ) (b : Bridge) (v : FineBut slot (suc m) b) (a : 0 < available tagCount (b .core .free)) (r : Room b slot place n) where
+module _ (m : ℕ) (p : Pending) (b : Bridge) (v : FineBut (p .slot) (suc m) b) (a : 0 < available tagCount (b .core .free)) (r : Room b p) where
   abbrev t : ℕ
   t = lowest tagCount (b .core .free)
 
@@ -101,53 +102,53 @@ module _ (slot m place n : ℕ) (b : Bridge) (v : FineBut slot (suc m) b) (a : 0
       go (yes e) = e
       go (no e) = never (sym (lowest-free b a .free) ∙ v .tags t e .used)
 
-  new-missing : missingOf (opened slot place n b) t ≡ n
+  new-missing : missingOf (opened p b) t ≡ p .missing
   unfolding opened
-  new-missing = getD-set-same (b .missing) t n 0 (omega (arith, low, v .sizes .missing))
+  new-missing = getD-set-same (b .missing) t (p .missing) 0 (omega (arith, low, v .sizes .missing))
 
-  new-owner : ownerOf (opened slot place n b) t ≡ slot
+  new-owner : ownerOf (opened p b) t ≡ p .slot
   unfolding opened
-  new-owner = getD-set-same (b .owner) t slot 0 (omega (arith, low, v .sizes .owner))
+  new-owner = getD-set-same (b .owner) t (p .slot) 0 (omega (arith, low, v .sizes .owner))
 
-  new-place : placeOf (opened slot place n b) t ≡ place
+  new-place : placeOf (opened p b) t ≡ p .place
   unfolding opened
-  new-place = getD-set-same (b .place) t place 0 (omega (arith, low, v .sizes .place))
+  new-place = getD-set-same (b .place) t (p .place) 0 (omega (arith, low, v .sizes .place))
 
-  new-sent : getD (opened slot place n b .sent) t 0 ≡ b .core .ticks
+  new-sent : getD (opened p b .sent) t 0 ≡ b .core .ticks
   unfolding opened
   new-sent = getD-set-same (b .sent) t (b .core .ticks) 0 (omega (arith, low, v .sizes .sent))
 
-  new-used : isSet (opened slot place n b .core .free) t ≡ false
+  new-used : isSet (opened p b .core .free) t ≡ false
   unfolding opened
   new-used = clear-clears (b .core .free) t .here
 
-  old-missing : (u : ℕ) → u ≢ t → missingOf (opened slot place n b) u ≡ missingOf b u
+  old-missing : (u : ℕ) → u ≢ t → missingOf (opened p b) u ≡ missingOf b u
   unfolding opened
-  old-missing u e = getD-set-other (b .missing) t u n 0 e
+  old-missing u e = getD-set-other (b .missing) t u (p .missing) 0 e
 
-  old-owner : (u : ℕ) → u ≢ t → ownerOf (opened slot place n b) u ≡ ownerOf b u
+  old-owner : (u : ℕ) → u ≢ t → ownerOf (opened p b) u ≡ ownerOf b u
   unfolding opened
-  old-owner u e = getD-set-other (b .owner) t u slot 0 e
+  old-owner u e = getD-set-other (b .owner) t u (p .slot) 0 e
 
-  old-place : (u : ℕ) → u ≢ t → placeOf (opened slot place n b) u ≡ placeOf b u
+  old-place : (u : ℕ) → u ≢ t → placeOf (opened p b) u ≡ placeOf b u
   unfolding opened
-  old-place u e = getD-set-other (b .place) t u place 0 e
+  old-place u e = getD-set-other (b .place) t u (p .place) 0 e
 
-  old-sent : (u : ℕ) → u ≢ t → getD (opened slot place n b .sent) u 0 ≡ getD (b .sent) u 0
+  old-sent : (u : ℕ) → u ≢ t → getD (opened p b .sent) u 0 ≡ getD (b .sent) u 0
   unfolding opened
   old-sent u e = getD-set-other (b .sent) t u (b .core .ticks) 0 e
 
-  old-free : (u : ℕ) → u ≢ t → isSet (opened slot place n b .core .free) u ≡ isSet (b .core .free) u
+  old-free : (u : ℕ) → u ≢ t → isSet (opened p b .core .free) u ≡ isSet (b .core .free) u
   unfolding opened
   old-free u e = clear-clears (b .core .free) t .others u e
 
-  size-same : opened slot place n b .size ≡ b .size
+  size-same : opened p b .size ≡ b .size
   unfolding opened
   size-same = refl
 
-  tag-of : (u : ℕ) → missingOf (opened slot place n b) u ≢ 0 → Dec (u ≡ t) → TagFits (opened slot place n b) u
+  tag-of : (u : ℕ) → Open (opened p b) u → Dec (u ≡ t) → TagFits (opened p b) u
   tag-of u h (yes e) =
-      subst (λ i. TagFits (opened slot place n b) i) (sym e)
+      subst (λ i. TagFits (opened p b) i) (sym e)
       (record {
         used = new-used;
         whole = rw (new-missing, new-place) (r .whole);
@@ -163,53 +164,54 @@ module _ (slot m place n : ℕ) (b : Bridge) (v : FineBut slot (suc m) b) (a : 0
         past = rw (old-sent u e) (w .past);
       }
 
-  other-names : (j u : ℕ) → u ≢ t → named (opened slot place n b) j u ≡ named b j u
-  other-names j u e = named-same b (opened slot place n b) j u (old-missing u e) (old-owner u e)
+  other-names : (j u : ℕ) → u ≢ t → named (opened p b) j u ≡ named b j u
+  other-names j u e = named-same b (opened p b) j u (old-missing u e) (old-owner u e)
 
-  slots-same : (j : ℕ) → piecesIn (opened slot place n b) j ≡ piecesIn b j
+  slots-same : (j : ℕ) → piecesIn (opened p b) j ≡ piecesIn b j
   unfolding opened
   slots-same j = refl
 
-  open-now : missingOf (opened slot place n b) t ≢ 0
+  open-now : Open (opened p b) t
   open-now e = let s = r .some in omega (arith, new-missing)
 
-  one-more : openIn (opened slot place n b) slot tagCount ≡ suc (openIn b slot tagCount)
-  one-more = open-more b (opened slot place n b) slot t (other-names slot) (closed-unnamed b slot t was-closed) (is-named (opened slot place n b) slot t open-now new-owner) tagCount low
+  one-more : openIn (opened p b) (p .slot) tagCount ≡ suc (openIn b (p .slot) tagCount)
+  one-more = open-more b (opened p b) (p .slot) t (other-names (p .slot)) (closed-unnamed b (p .slot) t was-closed) (is-named (opened p b) (p .slot) t open-now new-owner) tagCount low
 
-  none-more : (j : ℕ) → j ≢ slot → openIn (opened slot place n b) j tagCount ≡ openIn b j tagCount
-  none-more j e = open-same b (opened slot place n b) j tagCount (λ u. go u (ℕ-discrete u t))
+  none-more : (j : ℕ) → j ≢ p .slot → openIn (opened p b) j tagCount ≡ openIn b j tagCount
+  none-more j e = open-same b (opened p b) j tagCount (λ u. go u (ℕ-discrete u t))
     where
-      go : (u : ℕ) → Dec (u ≡ t) → named (opened slot place n b) j u ≡ named b j u
+      go : (u : ℕ) → Dec (u ≡ t) → named (opened p b) j u ≡ named b j u
       go u (yes f) =
-          ap (named (opened slot place n b) j) f
-          ∙ other-unnamed (opened slot place n b) j t (λ g. e (sym g ∙ new-owner))
+          ap (named (opened p b) j) f
+          ∙ other-unnamed (opened p b) j t (λ g. e (sym g ∙ new-owner))
           ∙ sym (closed-unnamed b j t was-closed)
           ∙ ap (named b j) (sym f)
       go u (no f) = other-names j u f
 
-  owed-here : (x : ℕ) → owed slot x slot ≡ x
-  owed-here x = rw (eq-eqb slot slot refl)
+  owed-here : (x : ℕ) → owed (p .slot) x (p .slot) ≡ x
+  owed-here x = rw (eq-eqb (p .slot) (p .slot) refl)
 
-  owed-there : (x j : ℕ) → j ≢ slot → owed slot x j ≡ 0
-  owed-there x j e = rw (ne-eqb j slot e)
+  owed-there : (x j : ℕ) → j ≢ p .slot → owed (p .slot) x j ≡ 0
+  owed-there x j e = rw (ne-eqb j (p .slot) e)
 
-  count-of : (j : ℕ) → Dec (j ≡ slot) → openIn (opened slot place n b) j tagCount + owed slot m j ≡ piecesIn (opened slot place n b) j
+  count-of : (j : ℕ) → Dec (j ≡ p .slot) → openIn (opened p b) j tagCount + owed (p .slot) m j ≡ piecesIn (opened p b) j
   count-of j (yes e) =
-      subst (λ i. openIn (opened slot place n b) i tagCount + owed slot m i ≡ piecesIn (opened slot place n b) i) (sym e)
-      (omega (arith, one-more, owed-here m, owed-here (suc m), v .count slot, slots-same slot))
+      subst (λ i. openIn (opened p b) i tagCount + owed (p .slot) m i ≡ piecesIn (opened p b) i) (sym e)
+      (omega (arith, one-more, owed-here m, owed-here (suc m), v .count (p .slot), slots-same (p .slot)))
   count-of j (no e) = omega (arith, none-more j e, owed-there m j e, owed-there (suc m) j e, v .count j, slots-same j)
 
-  opened-fine : FineBut slot m (opened slot place n b)
+  opened-fine : FineBut (p .slot) m (opened p b)
   unfolding opened
   opened-fine = record {
     right = v .right;
     sizes = record {
-      missing = length-set (b .missing) t n ∙ v .sizes .missing;
+      missing = length-set (b .missing) t (p .missing) ∙ v .sizes .missing;
       sent = length-set (b .sent) t (b .core .ticks) ∙ v .sizes .sent;
-      owner = length-set (b .owner) t slot ∙ v .sizes .owner;
-      place = length-set (b .place) t place ∙ v .sizes .place;
+      owner = length-set (b .owner) t (p .slot) ∙ v .sizes .owner;
+      place = length-set (b .place) t (p .place) ∙ v .sizes .place;
+      next = length-set (b .next) t (p .next) ∙ v .sizes .next;
+      kind = length-set (b .kind) t (p .kind) ∙ v .sizes .kind;
       state = v .sizes .state;
-      start = v .sizes .start;
       size = v .sizes .size;
       pieces = v .sizes .pieces;
       fault = v .sizes .fault;
@@ -217,7 +219,7 @@ module _ (slot m place n : ℕ) (b : Bridge) (v : FineBut slot (suc m) b) (a : 0
     };
     clock = v .clock;
     tags = λ u h. tag-of u h (ℕ-discrete u t);
-    count = λ j. count-of j (ℕ-discrete j slot);
+    count = λ j. count-of j (ℕ-discrete j (p .slot));
     alive = v .alive;
     fits = v .fits;
     marked = v .marked;
@@ -254,7 +256,7 @@ module _ (b : Bridge) (q : Burst) (room : ℕ) (v : Fine b) (e : readRefusal b q
   not-open f = omega (arith, state-below b k (ok .slot), slot-free)
 
   -- no open tag names the slot
-  not-owner : (u : ℕ) → missingOf b u ≢ 0 → ownerOf b u ≢ k
+  not-owner : (u : ℕ) → Open b u → ownerOf b u ≢ k
   not-owner u h f = not-open (subst (λ i. stateOf b i ≡ 1) f (owner-open b u v h))
 
   now-open : getD (claimed k q b .state) k 0 ≡ 1
@@ -331,7 +333,7 @@ module _ (b : Bridge) (q : Burst) (room : ℕ) (v : Fine b) (e : readRefusal b q
   claimed-marked j l s (yes f) = inl (ap (λ i. getD (claimed k q b .fault) i 0) f ∙ now-fault)
   claimed-marked j l s (no f) = rw (other-fault j f, other-cause j f) (v .marked j l (sym (other-state j f) ∙ s))
 
-  claimed-tag : (u : ℕ) → missingOf b u ≢ 0 → TagFits b u → TagFits (claimed k q b) u
+  claimed-tag : (u : ℕ) → Open b u → TagFits b u → TagFits (claimed k q b) u
   unfolding claimed
   claimed-tag u h w = record { used = w .used; whole = w .whole; inside = rw (other-size (ownerOf b u) (not-owner u h)) (w .inside); past = w .past }
 
@@ -344,8 +346,9 @@ module _ (b : Bridge) (q : Burst) (room : ℕ) (v : Fine b) (e : readRefusal b q
       sent = v .sizes .sent;
       owner = v .sizes .owner;
       place = v .sizes .place;
+      next = v .sizes .next;
+      kind = v .sizes .kind;
       state = length-set (b .state) k 1 ∙ v .sizes .state;
-      start = length-set (b .start) k (q .start .0 % 4096) ∙ v .sizes .start;
       size = length-set (b .size) k (lengthOf q) ∙ v .sizes .size;
       pieces = length-set (b .pieces) k (piecesOf (b .settings .reads) q) ∙ v .sizes .pieces;
       fault = length-set (b .fault) k 4096 ∙ v .sizes .fault;
@@ -364,7 +367,7 @@ module _ (b : Bridge) (q : Burst) (room : ℕ) (v : Fine b) (e : readRefusal b q
   limit-some = blocks-of (b .settings .reads) (accepted-reads (b .settings) (v .right)) .some
 
   -- a piece lies in the burst
-  piece-room : (i : ℕ) → i < piecesOf (b .settings .reads) q → Room (claimed k q b) k (placeIn q (pieceOf (b .settings .reads) q i)) (pieceOf (b .settings .reads) q i .length)
+  piece-room : (i : ℕ) → i < piecesOf (b .settings .reads) q → Room (claimed k q b) (piecePending k (b .settings) q (pieceOf (b .settings .reads) q i))
   piece-room i l =
       let c = accepted-covers q (ok .burst) in
       let w = piece-within (b .settings .reads) (q .start .0) (lengthOf q) i limit-some l in
@@ -387,7 +390,7 @@ module _ (b : Bridge) (q : Burst) (room : ℕ) (v : Fine b) (e : readRefusal b q
       let more : 0 < available tagCount (s .core .free) = omega (arith, a le, ap (available tagCount) free-same) in
       let r = piece-room i (omega arith) in
       let size : s .size ≡ claimed k q b .size = o le .size in
-      opened-fine k m (placeIn q (pieceOf (b .settings .reads) q i)) (pieceOf (b .settings .reads) q i .length) s (read-fine i (suc m) (omega arith)) more
+      opened-fine m (piecePending k (b .settings) q (pieceOf (b .settings .reads) q i)) s (read-fine i (suc m) (omega arith)) more
       (record { some = r .some; whole = r .whole; inside-slot = rw size (r .inside-slot) })
 
   pub accepted-read-fine : Fine (readBridge b q)
@@ -397,7 +400,7 @@ module _ (b : Bridge) (q : Burst) (room : ℕ) (v : Fine b) (e : readRefusal b q
 
 module _ (b : Bridge) (a : Access) (room : ℕ) (v : Fine b) (e : configRefusal b a room ≡ 0) (out : goesOut (routeOf b a) ≡ true) where
   abbrev waiting : Bridge
-  waiting = coreIn (withConfig (record { state = 1; write = a .write; response = okay; word = 0 }) (b .core)) b
+  waiting = configClaimed a b
 
   was-free : stateOf b 8 ≢ 1
   was-free f = omega (arith, state-config b, passed (b .core) (routeOf b a) room e .free)
@@ -433,6 +436,6 @@ module _ (b : Bridge) (a : Access) (room : ℕ) (v : Fine b) (e : configRefusal 
   pub routed-fine : Fine (routedBridge b a)
   unfolding routedBridge
   routed-fine =
-      all-opened 8 (opened 8 0 4 waiting)
-      (opened-fine 8 0 0 4 waiting waiting-fine (passed (b .core) (routeOf b a) room e .tag out)
+      all-opened configSlot (opened (wordPending (a .write)) waiting)
+      (opened-fine 0 (wordPending (a .write)) waiting waiting-fine (passed (b .core) (routeOf b a) room e .tag out)
       (record { some = omega arith; whole = omega arith; inside-slot = λ h. absurd (omega arith) }))

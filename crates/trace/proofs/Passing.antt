@@ -6,7 +6,7 @@ use mathlib.Core.List.{List}
 use mathlib.Core.Bool.{Bool, true, false}
 use native.Mathlib.Omega.{arith}
 use native.Mathlib.Decide.{ℕ-discrete}
-use lib.ListN.{length, getD, set, length-set}
+use lib.ListN.{length, getD, length-set}
 use lib.Seq.{getD-set-same, getD-set-other}
 use lib.Dec.{eqb}
 use borrow.Author.Tests.{eq-eqb}
@@ -14,17 +14,17 @@ use Rattle.bits.specs.Bits.{isSet}
 use Rattle.tags.specs.Tags.{lowest}
 use Rattle.tags.proofs.Tags.{lowest-is}
 use Rattle.burst.specs.declared.Burst.{Burst}
-use Rattle.bridge.specs.declared.Bridge.{Bridge}
-use Rattle.bridge.specs.State.{tagCount, withConfig, coreIn, slotsIn, missingOf, placeOf, ownerOf, opened, freeSlot, okay, slverr}
-use Rattle.bridge.specs.Memory.{piecesOf, readRefusal, readBridge}
-use Rattle.bridge.specs.Config.{Access, routeOf, goesOut, configRefusal, routedBridge}
-use Rattle.bridge.specs.Completions.{Held, held}
-use Rattle.bridge.specs.Ticks.{linkLost, dropSlot, dropSlots}
+use Rattle.machine.specs.Bridge.{Bridge}
+use Rattle.machine.specs.State.{tagCount, slotFinished, setState, setPieces, setCause, missingOf, ownerOf, placeOf, Open, opened, freeSlot, slverr}
+use Rattle.machine.specs.Memory.{piecesOf, readRefusal, readBridge}
+use Rattle.machine.specs.Config.{Access, routeOf, goesOut, configRefusal, routedBridge, configClaimed, wordPending}
+use Rattle.machine.specs.Completions.{Held, held}
+use Rattle.machine.specs.Ticks.{linkLost, dropSlot, dropSlots}
 use Rattle.bridge_laws.specs.CompletionLaws.{Kept, SlotSame}
 use Rattle.bridge_laws.specs.MemoryLaws.{tagOf}
 use Rattle.bridge_laws.proofs.Kept.{accepted-read-keeps}
-use Rattle.bridge.proofs.Refusals.{read-ok}
-use Rattle.bridge.proofs.Configs.{passed}
+use Rattle.machine.proofs.Refusals.{read-ok}
+use Rattle.machine.proofs.Configs.{passed}
 use Rattle.trace.specs.FarSide.{Ask, Wire, sending}
 use Rattle.trace.specs.Sound.{Sound}
 use Rattle.trace.proofs.Settling.{entry-below}
@@ -58,18 +58,17 @@ other-tags k c t h x w e n p =
       back = λ u m o. let o' = sym (fo u) ∙ o in (λ y. m (p .here .missing u (d u o') ∙ y), o');
     }
 
-pub same-slot : (k : ℕ) (h x : Held) → x .bridge .state ≡ h .bridge .state → x .bridge .start ≡ h .bridge .start → x .bridge .size ≡ h .bridge .size → x .bridge .pieces ≡ h .bridge .pieces
+pub same-slot : (k : ℕ) (h x : Held) → x .bridge .state ≡ h .bridge .state → x .bridge .size ≡ h .bridge .size → x .bridge .pieces ≡ h .bridge .pieces
     → x .bridge .fault ≡ h .bridge .fault → x .bridge .cause ≡ h .bridge .cause → x .store ≡ h .store → SlotSame k h x
-same-slot k h x e₁ e₂ e₃ e₄ e₅ e₆ e₇ =
+same-slot k h x e₁ e₂ e₃ e₄ e₅ e₆ =
     let f : (l m : List ℕ) → l ≡ m → getD l k 0 ≡ getD m k 0 = λ l m e. ap (λ (y : List ℕ). getD y k 0) e in
     record {
       state = f (x .bridge .state) (h .bridge .state) e₁;
-      start = f (x .bridge .start) (h .bridge .start) e₂;
-      size = f (x .bridge .size) (h .bridge .size) e₃;
-      pieces = f (x .bridge .pieces) (h .bridge .pieces) e₄;
-      fault = f (x .bridge .fault) (h .bridge .fault) e₅;
-      cause = f (x .bridge .cause) (h .bridge .cause) e₆;
-      bytes = λ i g. ap (λ (y : List ℕ). getD y (4096 * k + i) 0) e₇;
+      size = f (x .bridge .size) (h .bridge .size) e₂;
+      pieces = f (x .bridge .pieces) (h .bridge .pieces) e₃;
+      fault = f (x .bridge .fault) (h .bridge .fault) e₄;
+      cause = f (x .bridge .cause) (h .bridge .cause) e₅;
+      bytes = λ i g. ap (λ (y : List ℕ). getD y (4096 * k + i) 0) e₆;
     }
 
 -- ---- another read
@@ -86,7 +85,6 @@ module _ (k : ℕ) (h : Held) (q : Burst) (room : ℕ) (s : Sound h) (e : readRe
       let p = accepted-read-keeps (h .bridge) q room e in
       record {
         state = p .state k elsewhere;
-        start = p .start k elsewhere;
         size = p .size k elsewhere;
         pieces = p .pieces k elsewhere;
         fault = p .fault k elsewhere;
@@ -95,7 +93,7 @@ module _ (k : ℕ) (h : Held) (q : Burst) (room : ℕ) (s : Sound h) (e : readRe
       }
 
   -- the tags that it takes were free
-  not-turn : (sent : ℕ → List (List ℕ)) (t : ℕ) → missingOf (h .bridge) t ≢ 0 → (j : ℕ) → j < piecesOf (h .bridge .settings .reads) q → tagOf (h .bridge) j ≢ t
+  not-turn : (sent : ℕ → List (List ℕ)) (t : ℕ) → Open (h .bridge) t → (j : ℕ) → j < piecesOf (h .bridge .settings .reads) q → tagOf (h .bridge) j ≢ t
   not-turn sent t m j l z = no-way (sym (sends-read sent h q room s e .free j l .free) ∙ (ap (isSet (h .bridge .core .free)) z ∙ s .tags t m .used))
 
   pub read-tags : (sent : ℕ → List (List ℕ)) (w : Wire) → TagsStay k (h .bridge) (readBridge (h .bridge) q) w (sending w (turns (h .bridge) q))
@@ -113,9 +111,9 @@ module _ (k : ℕ) (h : Held) (q : Burst) (room : ℕ) (s : Sound h) (e : readRe
           let g : j < piecesOf (h .bridge .settings .reads) q = omega (arith, turns-many (h .bridge) q) in
           f j g (sym (ap (λ (a : Ask). a .tag) (turn-is (h .bridge) q j g)) ∙ z)
 
-      by : (t : ℕ) → missingOf (readBridge (h .bridge) q) t ≢ 0 → ownerOf (readBridge (h .bridge) q) t ≡ k
+      by : (t : ℕ) → Open (readBridge (h .bridge) q) t → ownerOf (readBridge (h .bridge) q) t ≡ k
           → ((j : ℕ) × (j < length (turns (h .bridge) q)) × (askAt (turns (h .bridge) q) j .tag ≡ t)) ⊎ ((j : ℕ) → j < length (turns (h .bridge) q) → askAt (turns (h .bridge) q) j .tag ≢ t)
-          → (missingOf (h .bridge) t ≢ 0) × (ownerOf (h .bridge) t ≡ k)
+          → Open (h .bridge) t × (ownerOf (h .bridge) t ≡ k)
       by t m o (inl (j, l, z)) =
           let g : j < piecesOf (h .bridge .settings .reads) q = omega (arith, turns-many (h .bridge) q) in
           let y : tagOf (h .bridge) j ≡ t = sym (ap (λ (a : Ask). a .tag) (turn-is (h .bridge) q j g)) ∙ z in
@@ -129,12 +127,12 @@ module _ (k : ℕ) (h : Held) (q : Burst) (room : ℕ) (s : Sound h) (e : readRe
 module _ (k : ℕ) (small : k < 8) (h : Held) (a : Access) (room : ℕ) (s : Sound h) (e : configRefusal (h .bridge) a room ≡ 0) (o : goesOut (routeOf (h .bridge) a) ≡ true) where
   pub word-slot : SlotSame k h (held (routedBridge (h .bridge) a) (h .store))
   unfolding routedBridge opened
-  word-slot = record { state = refl; start = refl; size = refl; pieces = refl; fault = refl; cause = refl; bytes = λ i g. refl }
+  word-slot = record { state = refl; size = refl; pieces = refl; fault = refl; cause = refl; bytes = λ i g. refl }
 
   other-word : (t : ℕ) → t ≢ lowest tagCount (h .bridge .core .free) → (missingOf (routedBridge (h .bridge) a) t ≡ missingOf (h .bridge) t) × (ownerOf (routedBridge (h .bridge) a) t ≡ ownerOf (h .bridge) t) × (placeOf (routedBridge (h .bridge) a) t ≡ placeOf (h .bridge) t)
   unfolding routedBridge opened
   other-word t d =
-      let y = opened-other 8 0 4 (coreIn (withConfig (record { state = 1; write = a .write; response = okay; word = 0 }) (h .bridge .core)) (h .bridge)) t d in
+      let y = opened-other (wordPending (a .write)) (configClaimed a (h .bridge)) t d in
       (y .missing, y .owner, y .place)
 
   pub word-tags : (sent : ℕ → List (List ℕ)) (w : Wire) → TagsStay k (h .bridge) (routedBridge (h .bridge) a) w (sending w (wordAsk (h .bridge) a))
@@ -144,7 +142,7 @@ module _ (k : ℕ) (small : k < 8) (h : Held) (a : Access) (room : ℕ) (s : Sou
         back = λ t m f. by t m f (ℕ-discrete t (lowest tagCount (h .bridge .core .free)));
       }
     where
-      free : (t : ℕ) → missingOf (h .bridge) t ≢ 0 → t ≢ lowest tagCount (h .bridge .core .free)
+      free : (t : ℕ) → Open (h .bridge) t → t ≢ lowest tagCount (h .bridge .core .free)
       free t m z =
           no-way (sym (lowest-is tagCount (h .bridge .core .free) (passed (h .bridge .core) (routeOf (h .bridge) a) room e .tag o) .tag .free) ∙ (ap (isSet (h .bridge .core .free)) (sym z) ∙ s .tags t m .used))
 
@@ -152,7 +150,7 @@ module _ (k : ℕ) (small : k < 8) (h : Held) (a : Access) (room : ℕ) (s : Sou
       asks t d zero l z = d (sym z)
       asks t d (suc j) l z = absurd (omega arith)
 
-      by : (t : ℕ) → missingOf (routedBridge (h .bridge) a) t ≢ 0 → ownerOf (routedBridge (h .bridge) a) t ≡ k → Dec (t ≡ lowest tagCount (h .bridge .core .free)) → (missingOf (h .bridge) t ≢ 0) × (ownerOf (h .bridge) t ≡ k)
+      by : (t : ℕ) → Open (routedBridge (h .bridge) a) t → ownerOf (routedBridge (h .bridge) a) t ≡ k → Dec (t ≡ lowest tagCount (h .bridge .core .free)) → Open (h .bridge) t × (ownerOf (h .bridge) t ≡ k)
       by t m f (yes z) = absurd (omega (arith, word-owner sent h a room s e o, ap (ownerOf (routedBridge (h .bridge) a)) z))
       by t m f (no d) = let y = other-word t d in (λ r. m (y .0 ∙ r), sym (y .1) ∙ f)
 
@@ -163,7 +161,7 @@ unfolding dropSlot
 drop-spoilt k n h false z s = rw z s
 drop-spoilt k n h true z s = rw z (by (ℕ-discrete k n))
   where
-    by : Dec (k ≡ n) → Spoilt k (slotsIn (set (h .bridge .state) n 2) (h .bridge .start) (h .bridge .size) (set (h .bridge .pieces) n 0) (h .bridge .fault) (set (h .bridge .cause) n slverr) (h .bridge))
+    by : Dec (k ≡ n) → Spoilt k (setState n slotFinished (setPieces n 0 (setCause n slverr (h .bridge))))
     by (yes y) =
         rw y
         (record {

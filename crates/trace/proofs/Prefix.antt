@@ -4,7 +4,7 @@ use mathlib.Core.Path.{_≡_, refl, subst}
 use mathlib.Core.List.{List, [], _∷_, _++_}
 use mathlib.Core.Bool.{Bool, true, false, cond, _&&_}
 use lib.Dec.{eqb}
-use Rattle.bridge.specs.Completions.{Held, completionOf}
+use Rattle.machine.specs.Completions.{Held, completionOf}
 use Rattle.trace.specs.Events.{Event, read, write, config, completion, tick, link, look, release, step}
 use Rattle.trace.specs.FarSide.{Wire, wireAfter, Some, none, came, lost, readable, paired, Along, FarFirst}
 

@@ -15,19 +15,19 @@ use Rattle.tlp.specs.declared.completion.CompletionRead.the-variants.{Header}
 use Rattle.burst.specs.declared.Burst.{Burst}
 use Rattle.burst.specs.Bursts.{lengthOf}
 use Rattle.verdict.specs.declared.Verdict.{Verdict}
-use Rattle.bridge.specs.State.{tagCount, withTicks, coreIn, missingOf, placeOf, ownerOf}
-use Rattle.bridge.specs.Memory.{readBridge}
-use Rattle.bridge.specs.Config.{Access, localCore, routedBridge}
-use Rattle.bridge.specs.Verdict.{memoryVerdict}
-use Rattle.bridge.specs.Completions.{Held, held, completionOf, nextAddress, completed}
-use Rattle.bridge.specs.Ticks.{nextTick, expireTo, ticked}
-use Rattle.bridge.specs.Take.{takeRefusal, slotFreed}
+use Rattle.machine.specs.State.{tagCount, withTicks, coreIn, missingOf, ownerOf, placeOf, Open}
+use Rattle.machine.specs.Memory.{readBridge}
+use Rattle.machine.specs.Config.{Access, localCore, routedBridge}
+use Rattle.machine.specs.Verdict.{memoryVerdict}
+use Rattle.machine.specs.Completions.{Held, held, completionOf, nextAddress, completed}
+use Rattle.machine.specs.Ticks.{nextTick, expireTo, ticked}
+use Rattle.machine.specs.Take.{takeRefusal, slotFreed}
 use Rattle.bridge_laws.specs.CompletionLaws.{Kept, SlotSame}
 use Rattle.bridge_laws.proofs.Keeping.{own-slot-only}
 use Rattle.bridge_laws.proofs.Finished.{kept-slot}
 use Rattle.bridge_laws.proofs.TickLaws.{tick-stays, link-stays}
 use Rattle.trace.specs.Events as event
-use Rattle.trace.specs.Events.{Event, step, run, start}
+use Rattle.trace.specs.Events.{Event, step, run}
 use Rattle.trace.specs.FarSide.{Wire, sending, wireAfter, Paired, Along}
 use Rattle.trace.specs.Claims.{takes, Untaken}
 use Rattle.trace.specs.Sound.{Sound}
@@ -54,11 +54,11 @@ release-other k j h f e z = no-way (sym (rw (eq-eqb j k (sym z), eq-eqb (takeRef
 release-slot : (k j : ℕ) (h : Held) (z : Bool) → ltb j 8 ≡ z → k ≢ j → SlotSame k h (held (slotFreed j (h .bridge)) (h .store))
 unfolding slotFreed
 release-slot k j h true z n =
-    rw z (record { state = getD-set-other (h .bridge .state) j k 0 0 n; start = refl; size = refl; pieces = refl; fault = refl; cause = refl; bytes = λ i g. refl })
-release-slot k j h false z n = rw z (record { state = refl; start = refl; size = refl; pieces = refl; fault = refl; cause = refl; bytes = λ i g. refl })
+    rw z (record { state = getD-set-other (h .bridge .state) j k 0 0 n; size = refl; pieces = refl; fault = refl; cause = refl; bytes = λ i g. refl })
+release-slot k j h false z n = rw z (record { state = refl; size = refl; pieces = refl; fault = refl; cause = refl; bytes = λ i g. refl })
 
 local-slot : (k : ℕ) (h : Held) (a : Access) (o : ℕ) → SlotSame k h (held (coreIn (localCore (h .bridge .core) a o) (h .bridge)) (h .store))
-local-slot k h a o = record { state = refl; start = refl; size = refl; pieces = refl; fault = refl; cause = refl; bytes = λ i g. refl }
+local-slot k h a o = record { state = refl; size = refl; pieces = refl; fault = refl; cause = refl; bytes = λ i g. refl }
 
 module _ (sent : ℕ → List (List ℕ)) (l : ℕ) (pos : 0 < l) (q : Burst) (i k : ℕ) (small : k < 8) (most : lengthOf q ≤ 4096) where
   abbrev At : Held → Wire → List Event → Type 0
@@ -95,7 +95,7 @@ module _ (sent : ℕ → List (List ℕ)) (l : ℕ) (pos : 0 < l) (q : Burst) (i
 
       by : At h w es → At x w es
       by (spoilt a c) = on (inl (record { state = a; cause = c }))
-      by (going g) = on (inr (ticking (stage-stays sent l pos q i k h y w w (same-slot k h y refl refl refl refl refl refl refl) es most (λ z. same-tags k (h .bridge) (y .bridge) w refl refl refl) (going g)) g))
+      by (going g) = on (inr (ticking (stage-stays sent l pos q i k h y w w (same-slot k h y refl refl refl refl refl refl) es most (λ z. same-tags k (h .bridge) (y .bridge) w refl refl refl) (going g)) g))
         where
           ticking : At y w es → Going sent l pos q i k h w es → Going sent l pos q i k y w es
           ticking (spoilt a c) g = absurd (c (g .cause))
@@ -122,7 +122,7 @@ module _ (sent : ℕ → List (List ℕ)) (l : ℕ) (pos : 0 < l) (q : Burst) (i
       let z = g .down o .1 in
       pass h x (event.link false) w (wireAfter w h (event.link false)) es s (λ y. no-tags k (h .bridge) (x .bridge) w (wireAfter w h (event.link false)) z (λ t. ap (λ (m : List ℕ). getD m t 0) em ∙ z t)) v
 
-  memory-stage : (h x : Held) (label : ℕ) (s : List ℕ) (c : Completion) (v : Verdict) (w : Wire) (es : List Event) → completionOf s ≡ Header c → missingOf (h .bridge) (c .tag) ≢ 0
+  memory-stage : (h x : Held) (label : ℕ) (s : List ℕ) (c : Completion) (v : Verdict) (w : Wire) (es : List Event) → completionOf s ≡ Header c → Open (h .bridge) (c .tag)
       → memoryVerdict c (missingOf (h .bridge) (c .tag)) (nextAddress (h .bridge) (c .tag)) ≡ v → Served h (c .tag) (ownerOf (h .bridge) (c .tag)) (c .lower % 4) (drop 12 s) v x → x ≡ completed h s
       → Sound h → Wired sent h w (event.completion label s ∷ es) → Paired w (event.completion label s) → At h w (event.completion label s ∷ es) → At x w es
   memory-stage h x label s c v w es e m j p eq g d a r = by (ℕ-discrete (ownerOf (h .bridge) (c .tag)) k)
@@ -135,9 +135,9 @@ module _ (sent : ℕ → List (List ℕ)) (l : ℕ) (pos : 0 < l) (q : Burst) (i
       → At h w (e ∷ es) → At x (wireAfter w h e) es
   move-stage h e x (idle r s a lk) eq w es g d p u v =
       subst (λ (z : Wire). At x z es) (sym (idle-wire h e w s a))
-      (pass h x e w w es (record { state = refl; start = refl; size = refl; pieces = refl; fault = refl; cause = refl; bytes = λ i g. refl }) (λ y. same-tags k (h .bridge) (x .bridge) w refl refl refl) v)
+      (pass h x e w w es (record { state = refl; size = refl; pieces = refl; fault = refl; cause = refl; bytes = λ i g. refl }) (λ y. same-tags k (h .bridge) (x .bridge) w refl refl refl) v)
   move-stage h e x (missed r f lk) eq w es g d p u v =
-      pass h x e w w es (record { state = refl; start = refl; size = refl; pieces = refl; fault = refl; cause = refl; bytes = λ i g. refl }) (λ y. same-tags k (h .bridge) (x .bridge) w refl refl refl) v
+      pass h x e w w es (record { state = refl; size = refl; pieces = refl; fault = refl; cause = refl; bytes = λ i g. refl }) (λ y. same-tags k (h .bridge) (x .bridge) w refl refl refl) v
   move-stage h e x (reads {q = b} {room = room} f) eq w es g d p u v =
       let n = stage-used sent l pos q i k h w (e ∷ es) v in
       let y : TagsStay k (h .bridge) (readBridge (h .bridge) b) w (wireAfter w h (event.read b room)) =
@@ -159,7 +159,7 @@ module _ (sent : ℕ → List (List ℕ)) (l : ℕ) (pos : 0 < l) (q : Burst) (i
   move-stage h e x (drops lk) eq w es g d p u v =
       link-stage h x false w (wireAfter w h (event.link false)) es (λ n. subst (SlotSame k h) (sym eq) (link-stays false h k n)) (drop-spoils k h small (omega (arith, g .sizes .cause))) v
   move-stage h e x (links up o) eq w es g d p u v =
-      up-stage h x up w es (record { state = refl; start = refl; size = refl; pieces = refl; fault = refl; cause = refl; bytes = λ i g. refl }) refl refl refl g o v
+      up-stage h x up w es (record { state = refl; size = refl; pieces = refl; fault = refl; cause = refl; bytes = λ i g. refl }) refl refl refl g o v
   move-stage h e x (releases {k = j} r) eq w es g d p u v =
       let z = wired-release j (h .bridge) (ltb j 8) refl in
       pass h x e w w es (release-slot k j h (ltb j 8) refl (release-other k j h u r)) (λ y. same-tags k (h .bridge) (x .bridge) w (z .missing) (z .owner) (z .place)) v

@@ -9,14 +9,14 @@ use lib.Seq.{paste}
 use Rattle.tlp.specs.declared.completion.Completion.{Completion}
 use Rattle.tlp.specs.declared.completion.CompletionRead.the-variants.{Header}
 use Rattle.burst.specs.declared.Burst.{Burst}
-use Rattle.bridge.specs.declared.Bridge.{Bridge}
+use Rattle.machine.specs.Bridge.{Bridge}
 use Rattle.verdict.specs.declared.Cause.{Cause}
 use Rattle.verdict.specs.declared.Cause.the-variants.{Poison}
 use Rattle.verdict.specs.declared.Verdict.{Verdict}
 use Rattle.verdict.specs.declared.Verdict.the-variants.{Good}
-use Rattle.bridge.specs.State.{tagCount, missingOf, placeOf, ownerOf, counted, shut, freed}
-use Rattle.bridge.specs.Verdict.{memoryVerdict}
-use Rattle.bridge.specs.Completions.{Held, held, failed, closed, usefulBytes, completionOf, nextAddress}
+use Rattle.machine.specs.State.{tagCount, missingOf, ownerOf, placeOf, Open, counted, shut, freed}
+use Rattle.machine.specs.Verdict.{memoryVerdict}
+use Rattle.machine.specs.Completions.{Held, held, failed, closed, usefulBytes, completionOf, nextAddress}
 use Rattle.trace.specs.Events.{Event, completion}
 use Rattle.trace.specs.FarSide.{Wire, Paired}
 use Rattle.trace.specs.Sound.{openIn, Sound}
@@ -32,9 +32,9 @@ use Rattle.trace.proofs.Filling.{Spoilt, Stepped, counted-stepped, clos
 use Rattle.trace.proofs.Filled.{filled}
 
 -- the last open tag of a slot closes: then no other is open for it
-pub last-closes : (h : Held) (x : Bridge) (t k : ℕ) → Sound h → k < 8 → getD (h .bridge .state) k 0 ≡ 1 → missingOf (h .bridge) t ≢ 0 → ownerOf (h .bridge) t ≡ k
+pub last-closes : (h : Held) (x : Bridge) (t k : ℕ) → Sound h → k < 8 → getD (h .bridge .state) k 0 ≡ 1 → Open (h .bridge) t → ownerOf (h .bridge) t ≡ k
     → missingOf x t ≡ 0 → ((u : ℕ) → u ≢ t → missingOf x u ≡ missingOf (h .bridge) u) → ((u : ℕ) → ownerOf x u ≡ ownerOf (h .bridge) u)
-    → getD (h .bridge .pieces) k 0 ≤ 1 → (u : ℕ) → missingOf x u ≢ 0 → ownerOf x u ≢ k
+    → getD (h .bridge .pieces) k 0 ≤ 1 → (u : ℕ) → Open x u → ownerOf x u ≢ k
 last-closes h x t k s small st m o z f g few u n r =
     let b = h .bridge in
     let d : u ≢ t = λ e. n (ap (missingOf x) e ∙ z) in
@@ -45,7 +45,7 @@ last-closes h x t k s small st m o z f g few u n r =
 
 module _ (sent : ℕ → List (List ℕ)) (l : ℕ) (pos : 0 < l) (q : Burst) (i k : ℕ) (small : k < 8) (h : Held) (w : Wire) (es : List Event) (label : ℕ) (s : List ℕ) (c : Completion)
     (e : completionOf s ≡ Header c) (sound : Sound h) (wired : Wired sent h w (completion label s ∷ es)) (paired : Paired w (completion label s))
-    (m : missingOf (h .bridge) (c .tag) ≢ 0) (o : ownerOf (h .bridge) (c .tag) ≡ k) (v : Verdict)
+    (m : Open (h .bridge) (c .tag)) (o : ownerOf (h .bridge) (c .tag) ≡ k) (v : Verdict)
     (judged : memoryVerdict c (missingOf (h .bridge) (c .tag)) (nextAddress (h .bridge) (c .tag)) ≡ v) where
   abbrev t : ℕ
   t = c .tag

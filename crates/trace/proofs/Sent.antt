@@ -12,14 +12,14 @@ use Rattle.address.specs.Settings.{between, powerOfTwo, windowsRight, settingsR
 use Rattle.address.proofs.Laws.{accepted}
 use Rattle.burst.specs.declared.Burst.{Burst}
 use Rattle.burst.specs.Pieces.{addresses}
-use Rattle.bridge.specs.declared.Bridge.{Bridge}
-use Rattle.bridge.specs.State.{tagCount}
-use Rattle.bridge.specs.Memory.{piecesOf, readRefusal, readBytes}
-use Rattle.bridge.specs.Config.{Access, routeOf, goesOut, configRefusal, routedBytes}
-use Rattle.bridge.specs.Completions.{Held}
+use Rattle.machine.specs.Bridge.{Bridge}
+use Rattle.machine.specs.State.{tagCount}
+use Rattle.machine.specs.Memory.{piecesOf, readRefusal, readBytes}
+use Rattle.machine.specs.Config.{Access, routeOf, goesOut, configRefusal, routedBytes}
+use Rattle.machine.specs.Completions.{Held}
 use Rattle.bridge_laws.proofs.Sends.{accepted-read-sends}
 use Rattle.bridge_laws.proofs.ConfigLaws.{routed-packet}
-use Rattle.bridge.proofs.Judging.{never}
+use Rattle.machine.proofs.Judging.{never}
 use Rattle.trace.specs.Events as event
 use Rattle.trace.specs.Events.{Event, step, run, start}
 use Rattle.trace.specs.FarSide.{word, Ask, askOf, asked}

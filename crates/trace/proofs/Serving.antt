@@ -6,18 +6,18 @@ use mathlib.Core.List.{List, [], _∷_}
 use mathlib.Core.Bool.{Bool, true, false, cond}
 use native.Mathlib.Omega.{arith}
 use native.Mathlib.Decide.{ℕ-discrete}
-use lib.ListN.{length, getD, set, length-set}
+use lib.ListN.{length, getD, length-set}
 use lib.Seq.{paste, getD-set-same, getD-set-other}
 use lib.Dec.{leb, eqb}
 use Rattle.bits.specs.Bits.{isSet}
 use Rattle.address.specs.Settings.{settingsNumber}
-use Rattle.bridge.specs.declared.Bridge.{Bridge}
+use Rattle.machine.specs.Bridge.{Bridge}
 use Rattle.verdict.specs.declared.Cause.{Cause}
 use Rattle.verdict.specs.declared.Cause.the-variants.{Poison, Timeout}
 use Rattle.verdict.specs.declared.Verdict.{Verdict}
-use Rattle.bridge.specs.State.{tagCount, slotsIn, missingOf, placeOf, ownerOf, counted, shut, freed}
-use Rattle.bridge.specs.Completions.{Held, held, failed, finished, pieceClosed, closed, usefulBytes}
-use Rattle.bridge.specs.Take.{stateOf}
+use Rattle.machine.specs.State.{tagCount, setPieces, missingOf, ownerOf, placeOf, Open, counted, shut, freed}
+use Rattle.machine.specs.Completions.{Held, held, failed, finished, pieceClosed, closed, usefulBytes}
+use Rattle.machine.specs.Take.{stateOf}
 use Rattle.bridge_laws.specs.CompletionLaws.{Elsewhere}
 use Rattle.trace.specs.Sound.{named, openIn, piecesIn, Sizes}
 use Rattle.trace.proofs.Counts.{named-same, is-named, other-unnamed, open-same}
@@ -29,7 +29,7 @@ Marked b k = (getD (b .fault) k 0 ≡ 4096) ⊎ (getD (b .cause) k 0 ≢ 0)
 
 -- closing leaves the failure as it is
 failure-by : (z : Bool) (k : ℕ) (x : Bridge) (st : List ℕ) → Marked x k
-    → Marked (cond z (finished k (held x st)) (held (slotsIn (x .state) (x .start) (x .size) (set (x .pieces) k (getD (x .pieces) k 0 - 1)) (x .fault) (x .cause) x) st) .bridge) k
+    → Marked (cond z (finished k (held x st)) (held (setPieces k (getD (x .pieces) k 0 - 1) x) st) .bridge) k
 unfolding finished
 failure-by true k x st m = m
 failure-by false k x st m = m
@@ -40,7 +40,7 @@ closed-marked k x st m = failure-by (leb (getD (x .pieces) k 0) 1) k x st m
 
 -- an open tag of slot k
 pub record OpenFor (b : Bridge) (t k : ℕ) : Type 0 where
-  pub missing : missingOf b t ≢ 0
+  pub missing : Open b t
   pub owner : ownerOf b t ≡ k
   pub slot : k < 8
 
@@ -59,7 +59,7 @@ module _ (t k : ℕ) (b x : Bridge) (v : Fine b) (p : Touched t k b x) (o : Open
       closes-fine t k b (pieceClosed k (held x st) .bridge) v (settles st e) (o .missing) (o .owner) (o .slot) (closed-marked k x st m)
 
   -- some bytes come, and not the last
-  part-named : missingOf x t ≢ 0 → (j u : ℕ) → Dec (u ≡ t) → named x j u ≡ named b j u
+  part-named : Open x t → (j u : ℕ) → Dec (u ≡ t) → named x j u ≡ named b j u
   part-named n j u (yes e) = go (ℕ-discrete (ownerOf b t) j)
     where
       own : ownerOf x t ≡ ownerOf b t
@@ -70,8 +70,8 @@ module _ (t k : ℕ) (b x : Bridge) (v : Fine b) (p : Touched t k b x) (o : Open
       go (no f) = ap (named x j) e ∙ other-unnamed x j t (λ g. f (sym own ∙ g)) ∙ sym (other-unnamed b j t f) ∙ ap (named b j) (sym e)
   part-named n j u (no e) = named-same b x j u (p .missing u e) (ap (λ (l : List ℕ). getD l u 0) (p .owner))
 
-  part-tag : missingOf x t ≢ 0 → placeOf x t + missingOf x t ≡ placeOf b t + missingOf b t → isSet (x .core .free) t ≡ isSet (b .core .free) t
-      → (u : ℕ) → missingOf x u ≢ 0 → Dec (u ≡ t) → TagFits x u
+  part-tag : Open x t → placeOf x t + missingOf x t ≡ placeOf b t + missingOf b t → isSet (x .core .free) t ≡ isSet (b .core .free) t
+      → (u : ℕ) → Open x u → Dec (u ≡ t) → TagFits x u
   part-tag n s f u h (yes e) =
       let w = v .tags t (o .missing) in
       subst (λ i. TagFits x i) (sym e)
@@ -94,7 +94,7 @@ module _ (t k : ℕ) (b x : Bridge) (v : Fine b) (p : Touched t k b x) (o : Open
   part-marked m j l s (yes e) = rw e m
   part-marked m j l s (no e) = rw (p .fault j e, p .cause j e) (v .marked j l s)
 
-  pub part-fine : missingOf x t ≢ 0 → placeOf x t + missingOf x t ≡ placeOf b t + missingOf b t → isSet (x .core .free) t ≡ isSet (b .core .free) t
+  pub part-fine : Open x t → placeOf x t + missingOf x t ≡ placeOf b t + missingOf b t → isSet (x .core .free) t ≡ isSet (b .core .free) t
       → Marked x k → Fine x
   part-fine n s f m = record {
     right = ap settingsNumber (p .settings) ∙ v .right;
@@ -103,8 +103,9 @@ module _ (t k : ℕ) (b x : Bridge) (v : Fine b) (p : Touched t k b x) (o : Open
       sent = ap length (p .sent) ∙ v .sizes .sent;
       owner = ap length (p .owner) ∙ v .sizes .owner;
       place = p .place-size ∙ v .sizes .place;
+      next = p .next-size ∙ v .sizes .next;
+      kind = ap length (p .kind) ∙ v .sizes .kind;
       state = ap length (p .state) ∙ v .sizes .state;
-      start = ap length (p .start) ∙ v .sizes .start;
       size = ap length (p .size) ∙ v .sizes .size;
       pieces = ap length (p .pieces) ∙ v .sizes .pieces;
       fault = p .fault-size ∙ v .sizes .fault;
@@ -164,16 +165,16 @@ pub record Less (b x : Bridge) : Type 0 where
   pub settings : x .settings ≡ b .settings
   pub ticks : x .core .ticks ≡ b .core .ticks
   pub sent : x .sent ≡ b .sent
-  pub was : (u : ℕ) → missingOf x u ≢ 0 → missingOf b u ≢ 0
+  pub was : (u : ℕ) → Open x u → Open b u
 
-was-by : (t u : ℕ) (b x : Bridge) → missingOf b t ≢ 0 → Elsewhere t (b .missing) (x .missing) → missingOf x u ≢ 0 → Dec (u ≡ t) → missingOf b u ≢ 0
+was-by : (t u : ℕ) (b x : Bridge) → Open b t → Elsewhere t (b .missing) (x .missing) → Open x u → Dec (u ≡ t) → Open b u
 was-by t u b x m e n (yes f) g = m (ap (missingOf b) (sym f) ∙ g)
 was-by t u b x m e n (no f) g = n (e u f ∙ g)
 
-pub touched-less : (t k : ℕ) (b x : Bridge) → missingOf b t ≢ 0 → Touched t k b x → Less b x
+pub touched-less : (t k : ℕ) (b x : Bridge) → Open b t → Touched t k b x → Less b x
 touched-less t k b x m p = record { settings = p .settings; ticks = p .ticks; sent = p .sent; was = λ u n. was-by t u b x m (p .missing) n (ℕ-discrete u t) }
 
-pub closes-less : (t k : ℕ) (b x : Bridge) → missingOf b t ≢ 0 → Closes t k b x → Less b x
+pub closes-less : (t k : ℕ) (b x : Bridge) → Open b t → Closes t k b x → Less b x
 closes-less t k b x m p = record { settings = p .settings; ticks = p .ticks; sent = p .sent; was = λ u n. was-by t u b x m (p .missing) n (ℕ-discrete u t) }
 
 -- ---- the cases
@@ -213,7 +214,7 @@ module _ (h : Held) (t k skip : ℕ) (payload : List ℕ) (v : Fine (h .bridge))
       → (n : ℕ) → n < missingOf (h .bridge) t → Fine (counted t n x)
   part x p m em ep ef lm lp n l =
       let c = counted-counts t n x lm lp in
-      let nz : missingOf (counted t n x) t ≢ 0 = λ e. omega (arith, c .missing, em) in
+      let nz : Open (counted t n x) t = λ e. omega (arith, c .missing, em) in
       part-fine t k (h .bridge) (counted t n x) v (touched-then p (counted-touched t k n x)) o nz (omega (arith, c .missing, c .place, em, ep))
       (ap (λ w. isSet w t) (c .free ∙ ef)) (counted-failure t n k x m)
 

@@ -13,12 +13,12 @@ use borrow.Author.Tests.{ltb-true, ltb-false, leb-true, leb-false, eqb-true, eqb
 use Rattle.bits.specs.Bits.{isSet}
 use Rattle.address.specs.Settings.{settingsNumber}
 use Rattle.parts.specs.declared.Core.{Core}
-use Rattle.bridge.specs.declared.Bridge.{Bridge}
-use Rattle.bridge.specs.State.{tagCount, coreIn, slotsIn, missingOf, placeOf, ownerOf, registersOf, okay}
-use Rattle.bridge.specs.Completions.{storeSize, Held, held, finished, pieceClosed}
-use Rattle.bridge.specs.Take.{stateIn, stateOf}
+use Rattle.machine.specs.Bridge.{Bridge}
+use Rattle.machine.specs.State.{tagCount, coreIn, setPieces, missingOf, ownerOf, placeOf, Open, okay, registersOf}
+use Rattle.machine.specs.Completions.{storeSize, Held, held, finished, pieceClosed}
+use Rattle.machine.specs.Take.{stateIn, stateOf}
 use Rattle.bridge_laws.specs.CompletionLaws.{Elsewhere}
-use Rattle.bridge.proofs.Judging.{never}
+use Rattle.machine.proofs.Judging.{never}
 use Rattle.trace.specs.Sound.{named, openIn, piecesIn, Sizes}
 use Rattle.trace.proofs.Counts.{Names, named-is, is-named, closed-unnamed, other-unnamed, named-same, open-same, open-more, open-counted}
 use Rattle.trace.proofs.Touch.{Touched}
@@ -35,14 +35,14 @@ pub record Fine (b : Bridge) : Type 0 where
   pub right : settingsNumber (b .settings) ≡ 0
   pub sizes : Sizes b
   pub clock : b .core .ticks < 2 ^ 32
-  pub tags : (t : ℕ) → missingOf b t ≢ 0 → TagFits b t
+  pub tags : (t : ℕ) → Open b t → TagFits b t
   pub count : (k : ℕ) → openIn b k tagCount ≡ piecesIn b k
   pub alive : (k : ℕ) → k < 8 → getD (b .state) k 0 ≡ 1 → 0 < getD (b .pieces) k 0
   pub fits : (k : ℕ) → k < 8 → getD (b .state) k 0 ≢ 0 → getD (b .size) k 0 ≤ 4096
   pub marked : (k : ℕ) → k < 8 → getD (b .state) k 0 ≡ 1 → (getD (b .fault) k 0 ≡ 4096) ⊎ (getD (b .cause) k 0 ≢ 0)
   pub down : registersOf b .link ≡ false → (b .core .free ≡ 2 ^ tagCount - 1) × ((t : ℕ) → missingOf b t ≡ 0)
 
--- the tables are no part of the core
+-- the columns are no part of the core
 pub core-sizes : (c : Core) (b : Bridge) → Sizes b → Sizes (coreIn c b)
 core-sizes c b s = record {
   missing = s .missing;
@@ -50,7 +50,8 @@ core-sizes c b s = record {
   owner = s .owner;
   place = s .place;
   state = s .state;
-  start = s .start;
+  next = s .next;
+  kind = s .kind;
   size = s .size;
   pieces = s .pieces;
   fault = s .fault;
@@ -115,16 +116,16 @@ entry-below [] t h = absurd (h refl)
 entry-below (x ∷ l) zero h = omega arith
 entry-below (x ∷ l) (suc t) h = omega (arith, entry-below l t h)
 
-pub tag-below : (b : Bridge) (t : ℕ) → Sizes b → missingOf b t ≢ 0 → t < tagCount
+pub tag-below : (b : Bridge) (t : ℕ) → Sizes b → Open b t → t < tagCount
 tag-below b t s h = omega (arith, entry-below (b .missing) t h, s .missing)
 
 -- the slot of an open tag is open
-pub owner-open : (b : Bridge) (t : ℕ) → Fine b → missingOf b t ≢ 0 → stateOf b (ownerOf b t) ≡ 1
+pub owner-open : (b : Bridge) (t : ℕ) → Fine b → Open b t → stateOf b (ownerOf b t) ≡ 1
 owner-open b t v h =
     let n = open-counted b (ownerOf b t) t tagCount (is-named b (ownerOf b t) t h refl) (tag-below b t (v .sizes) h) in
     some-open b (ownerOf b t) (omega (arith, n, v .count (ownerOf b t)))
 
-pub owner-most : (b : Bridge) (t : ℕ) → Fine b → missingOf b t ≢ 0 → ownerOf b t ≤ 8
+pub owner-most : (b : Bridge) (t : ℕ) → Fine b → Open b t → ownerOf b t ≤ 8
 owner-most b t v h = go (decLe (ownerOf b t) 8)
   where
     go : Dec (ownerOf b t ≤ 8) → ownerOf b t ≤ 8
@@ -148,13 +149,15 @@ pub record Closes (t k : ℕ) (b y : Bridge) : Type 0 where
   pub free : (u : ℕ) → u ≢ t → isSet (y .core .free) u ≡ isSet (b .core .free) u
   pub sent : y .sent ≡ b .sent
   pub owner : y .owner ≡ b .owner
-  pub start : y .start ≡ b .start
+  pub kind : y .kind ≡ b .kind
   pub size : y .size ≡ b .size
   pub missing : Elsewhere t (b .missing) (y .missing)
   pub missing-size : length (y .missing) ≡ length (b .missing)
   pub gone : missingOf y t ≡ 0
   pub place : Elsewhere t (b .place) (y .place)
   pub place-size : length (y .place) ≡ length (b .place)
+  pub next : Elsewhere t (b .next) (y .next)
+  pub next-size : length (y .next) ≡ length (b .next)
   pub state : Elsewhere k (b .state) (y .state)
   pub state-size : length (y .state) ≡ length (b .state)
   pub pieces : Elsewhere k (b .pieces) (y .pieces)
@@ -168,7 +171,7 @@ pub record Closes (t k : ℕ) (b y : Bridge) : Type 0 where
 module _ (t k : ℕ) (b x : Bridge) (st : List ℕ) (p : Touched t k b x) (gone : missingOf x t ≡ 0)
     (lp : k < length (b .pieces)) (ls : k < length (b .state)) (open-slot : getD (b .state) k 0 ≡ 1) where
   closes-more : 1 < getD (x .pieces) k 0
-      → Closes t k b (slotsIn (x .state) (x .start) (x .size) (set (x .pieces) k (getD (x .pieces) k 0 - 1)) (x .fault) (x .cause) x)
+      → Closes t k b (setPieces k (getD (x .pieces) k 0 - 1) x)
   closes-more h =
       let n : getD (x .pieces) k 0 ≡ getD (b .pieces) k 0 = ap (λ (l : List ℕ). getD l k 0) (p .pieces) in
       let l : k < length (x .pieces) = subst (λ (l : List ℕ). k < length l) (sym (p .pieces)) lp in
@@ -181,13 +184,15 @@ module _ (t k : ℕ) (b x : Bridge) (st : List ℕ) (p : Touched t k b x) (gone 
         free = p .free;
         sent = p .sent;
         owner = p .owner;
-        start = p .start;
+        kind = p .kind;
         size = p .size;
         missing = p .missing;
         missing-size = p .missing-size;
         gone = gone;
         place = p .place;
         place-size = p .place-size;
+        next = p .next;
+        next-size = p .next-size;
         state = λ u e. ap (λ (l : List ℕ). getD l u 0) (p .state);
         state-size = ap length (p .state);
         pieces = λ u e. getD-set-other (x .pieces) k u (getD (x .pieces) k 0 - 1) 0 e ∙ ap (λ (l : List ℕ). getD l u 0) (p .pieces);
@@ -212,13 +217,15 @@ module _ (t k : ℕ) (b x : Bridge) (st : List ℕ) (p : Touched t k b x) (gone 
         free = p .free;
         sent = p .sent;
         owner = p .owner;
-        start = p .start;
+        kind = p .kind;
         size = p .size;
         missing = p .missing;
         missing-size = p .missing-size;
         gone = gone;
         place = p .place;
         place-size = p .place-size;
+        next = p .next;
+        next-size = p .next-size;
         state = λ u e. getD-set-other (x .state) k u 2 0 e ∙ ap (λ (l : List ℕ). getD l u 0) (p .state);
         state-size = length-set (x .state) k 2 ∙ ap length (p .state);
         pieces = λ u e. getD-set-other (x .pieces) k u 0 0 e ∙ ap (λ (l : List ℕ). getD l u 0) (p .pieces);
@@ -231,7 +238,7 @@ module _ (t k : ℕ) (b x : Bridge) (st : List ℕ) (p : Touched t k b x) (gone 
       }
 
   closes-by : (z : Bool) → leb (getD (x .pieces) k 0) 1 ≡ z
-      → Closes t k b (cond z (finished k (held x st)) (held (slotsIn (x .state) (x .start) (x .size) (set (x .pieces) k (getD (x .pieces) k 0 - 1)) (x .fault) (x .cause) x) st) .bridge)
+      → Closes t k b (cond z (finished k (held x st)) (held (setPieces k (getD (x .pieces) k 0 - 1) x) st) .bridge)
   closes-by true e = closes-done (leb-true _ _ e)
   closes-by false e = closes-more (leb-false _ _ e)
 
@@ -241,11 +248,11 @@ module _ (t k : ℕ) (b x : Bridge) (st : List ℕ) (p : Touched t k b x) (gone 
 
 -- ---- and keeps what holds
 
-module _ (t k : ℕ) (b y : Bridge) (v : Fine b) (c : Closes t k b y) (m : missingOf b t ≢ 0) (o : ownerOf b t ≡ k) (l : k < 8) where
+module _ (t k : ℕ) (b y : Bridge) (v : Fine b) (c : Closes t k b y) (m : Open b t) (o : ownerOf b t ≡ k) (l : k < 8) where
   owners : (u : ℕ) → ownerOf y u ≡ ownerOf b u
   owners u = ap (λ (l : List ℕ). getD l u 0) (c .owner)
 
-  not-t : (u : ℕ) → missingOf y u ≢ 0 → u ≢ t
+  not-t : (u : ℕ) → Open y u → u ≢ t
   not-t u h e = h (ap (missingOf y) e ∙ c .gone)
 
   kept-name : (j u : ℕ) → u ≢ t → named y j u ≡ named b j u
@@ -310,8 +317,9 @@ module _ (t k : ℕ) (b y : Bridge) (v : Fine b) (c : Closes t k b y) (m : missi
       sent = ap length (c .sent) ∙ v .sizes .sent;
       owner = ap length (c .owner) ∙ v .sizes .owner;
       place = c .place-size ∙ v .sizes .place;
+      next = c .next-size ∙ v .sizes .next;
+      kind = ap length (c .kind) ∙ v .sizes .kind;
       state = c .state-size ∙ v .sizes .state;
-      start = ap length (c .start) ∙ v .sizes .start;
       size = ap length (c .size) ∙ v .sizes .size;
       pieces = c .pieces-size ∙ v .sizes .pieces;
       fault = c .fault-size ∙ v .sizes .fault;

@@ -1,7 +1,7 @@
 -- What holds of every state that a list of events reaches.
 use Prim.Native.Nat.{ℕ, zero, suc, _+_, _-_, _*_, _%_, _^_, _≤_, _<_}
 use mathlib.Core.Path.{_≡_, refl, sym, ap, _∙_, subst}
-use mathlib.Core.Logic.{_⊎_, inl, inr, _≢_}
+use mathlib.Core.Logic.{_⊎_, inl, inr}
 use mathlib.Core.List.{List, [], _∷_}
 use mathlib.Core.Bool.{Bool, true, false, cond, not, _&&_}
 use native.Mathlib.Omega.{arith}
@@ -20,20 +20,21 @@ use Rattle.address.specs.Settings.{between, powerOfTwo, windowsRight, settingsR
 use Rattle.address.proofs.Laws.{example-accepted}
 use Rattle.address.proofs.Laws as address
 use Rattle.burst.specs.declared.Burst.{Burst}
-use Rattle.bridge.specs.declared.Bridge.{Bridge}
+use Rattle.parts.specs.declared.Pending.{Pending}
+use Rattle.machine.specs.Bridge.{Bridge}
 use Rattle.verdict.specs.declared.Verdict.{Verdict}
-use Rattle.parts.specs.declared.Response.the-variants.{Nothing}
-use Rattle.bridge.specs.State.{tagCount, withConfig, withTicks, coreIn, missingOf, placeOf, ownerOf, shut, freed, opened, freeSlot, freshCore, freshBridge, newBridge, okay, freeConfig, accepted, answered, refused, refusalChange}
-use Rattle.bridge.specs.Memory.{piecesOf, pieceOf, placeIn, claimed, readTo, readBridge, readRefusal}
-use Rattle.bridge.specs.Config.{Access, routeOf, goesOut, configRefusal, localCore, routedBridge}
-use Rattle.bridge.specs.Completions.{storeSize, Held, held, failed, pieceClosed, memoryCompleted, configCompleted, completionOf, completed}
-use Rattle.bridge.specs.Ticks.{nextTick, ageOf, expireTo, ticked, linkIn, linkLost, dropSlots, linked}
-use Rattle.bridge.specs.Take.{stateIn, stateOf, takeNumber, takeRefusal, slotFreed, statesIn}
+use Rattle.refusals.specs.declared.Response.the-variants.{Nothing}
+use Rattle.machine.specs.State.{tagCount, slotFree, withTicks, withConfig, freeConfig, coreIn, setState, missingOf, ownerOf, placeOf, Open, opened, shut, freed, freeSlot, refusalChange, accepted, answered, refused, freshCore, freshBridge, newBridge}
+use Rattle.machine.specs.Memory.{piecesOf, pieceOf, claimed, readTo, readBridge, readRefusal, piecePending}
+use Rattle.machine.specs.Config.{Access, routeOf, goesOut, configRefusal, localCore, routedBridge, configClaimed, wordPending}
+use Rattle.machine.specs.Completions.{storeSize, Held, held, failed, pieceClosed, memoryCompleted, configCompleted, completionOf, completed}
+use Rattle.machine.specs.Ticks.{nextTick, ageOf, expireTo, ticked, linkIn, linkLost, dropSlots, linked}
+use Rattle.machine.specs.Take.{stateIn, stateOf, takeNumber, takeRefusal, slotFreed}
 use Rattle.bridge_laws.specs.CompletionLaws.{Kept, Elsewhere}
-use Rattle.bridge.proofs.Judging.{never}
-use Rattle.bridge.proofs.Refusals.{ReadOk, read-ok}
+use Rattle.machine.proofs.Judging.{never}
+use Rattle.machine.proofs.Refusals.{ReadOk, read-ok}
 use Rattle.bridge_laws.proofs.Kept.{tags-left, opens-all}
-use Rattle.bridge.proofs.Configs.{passed}
+use Rattle.machine.proofs.Configs.{passed}
 use Rattle.bridge_laws.proofs.FreshLaws.{new-is-fresh, new-is-right}
 use Rattle.bridge_laws.proofs.Keeping.{own-slot-only, malformed-keeps}
 use Rattle.trace.specs.Events as event
@@ -71,17 +72,17 @@ limited s e =
 -- ---- no open tag is as old as the limit
 
 abbrev Young : Bridge → Type 0
-Young b = (t : ℕ) → missingOf b t ≢ 0 → ageOf (b .core .ticks) (getD (b .sent) t 0) < b .settings .limit
+Young b = (t : ℕ) → Open b t → ageOf (b .core .ticks) (getD (b .sent) t 0) < b .settings .limit
 
 -- a bridge whose open tags were open, with the same clock
 young-from : (b x : Bridge) → x .sent ≡ b .sent → x .core .ticks ≡ b .core .ticks → x .settings ≡ b .settings
-    → ((t : ℕ) → missingOf x t ≢ 0 → missingOf b t ≢ 0) → Young b → Young x
+    → ((t : ℕ) → Open x t → Open b t) → Young b → Young x
 young-from b x s c g o y t m = rw (s, c, g) (y t (o t m))
 
 -- what is opened now has the age 0
-module _ (slot place n : ℕ) (b : Bridge) (y : Young b) (s : length (b .sent) ≡ tagCount) (a : 0 < available tagCount (b .core .free))
+module _ (r : Pending) (b : Bridge) (y : Young b) (s : length (b .sent) ≡ tagCount) (a : 0 < available tagCount (b .core .free))
     (c : b .core .ticks < 2 ^ 32) (l : 1 ≤ b .settings .limit) where
-  young-opened : Young (opened slot place n b)
+  young-opened : Young (opened r b)
   unfolding opened
   young-opened u m = go (ℕ-discrete u (lowest tagCount (b .core .free)))
     where
@@ -93,7 +94,7 @@ module _ (slot place n : ℕ) (b : Bridge) (y : Young b) (s : length (b .sent) �
           rw (w, age-none (b .core .ticks) c) l
       go (no e) =
           rw (getD-set-other (b .sent) (lowest tagCount (b .core .free)) u (b .core .ticks) 0 e)
-          (y u (λ f. m (getD-set-other (b .missing) (lowest tagCount (b .core .free)) u n 0 e ∙ f)))
+          (y u (λ f. m (getD-set-other (b .missing) (lowest tagCount (b .core .free)) u (r .missing) 0 e ∙ f)))
 
 sent-size : (slot : ℕ) (q : Burst) (b : Bridge) (i : ℕ) → length (readTo slot q b i .sent) ≡ length (b .sent)
 unfolding readTo opened
@@ -137,7 +138,7 @@ module _ (b : Bridge) (q : Burst) (room : ℕ) (v : Fine b) (y : Young b) (e : r
       let o = opens-all (freeSlot b) q c i (omega arith) in
       let a = tags-left (freeSlot b) q c i (omega arith) in
       let x = readTo (freeSlot b) q c i in
-      young-opened (freeSlot b) (placeIn q (pieceOf (c .settings .reads) q i)) (pieceOf (c .settings .reads) q i .length) x (young-read i (omega arith))
+      young-opened (piecePending (freeSlot b) (c .settings) q (pieceOf (c .settings .reads) q i)) x (young-read i (omega arith))
       (sent-size (freeSlot b) q c i ∙ claimed-sent) (omega (arith, a)) (rw (o .ticks) claimed-ticks) (rw (o .settings) claimed-limit)
 
 -- ---- the cases
@@ -191,7 +192,7 @@ freed-young-by false b x y p q = q
 
 freed-young : (k : ℕ) (b : Bridge) → Young b → Young (slotFreed k b)
 unfolding slotFreed
-freed-young k b y = freed-young-by (ltb k 8) b (statesIn (set (b .state) k 0) (b .cause) b) (coreIn (withConfig freeConfig (b .core)) b) y y
+freed-young k b y = freed-young-by (ltb k 8) b (setState k slotFree b) (coreIn (withConfig freeConfig (b .core)) b) y y
 
 pub clock-looked : (h : Held) → Sound h → Looked 0 (held (coreIn (withTicks (nextTick (h .bridge .core .ticks)) (h .bridge .core)) (h .bridge)) (h .store))
 clock-looked h v =
@@ -221,7 +222,7 @@ move-both {h} (reads {q = q} {room = room} e) v = record {
 move-both {h} (locals {a = a} {room = room} w e r) v = record { fine = local-fine (h .bridge) a room w (fine-of h v) e; young = young-of h v }
 move-both {h} (routes {a = a} {room = room} e o) v = record {
   fine = routed-fine (h .bridge) a room (fine-of h v) e o;
-  young = young-opened 8 0 4 (coreIn (withConfig (record { state = 1; write = a .write; response = okay; word = 0 }) (h .bridge .core)) (h .bridge)) (young-of h v) (v .sizes .sent)
+  young = young-opened (wordPending (a .write)) (configClaimed a (h .bridge)) (young-of h v) (v .sizes .sent)
       (passed (h .bridge .core) (routeOf (h .bridge) a) room e .tag o) (v .clock) (limited (h .bridge .settings) (v .right) .some);
 }
 move-both {h} (memories {i = i} {s = s} c w e r o l f u) v =
@@ -246,7 +247,7 @@ move-both {h} (configs {i = i} {s = s} c w e r o l f u) v =
           (λ z n. was-open z t (h .bridge) (configCompleted (h .bridge) t (drop 12 s) w) m (g .missing) n (ℕ-discrete z t)) (young-of h v);
     }
   where
-    was-open : (z t : ℕ) (b x : Bridge) → missingOf b t ≢ 0 → Elsewhere t (b .missing) (x .missing) → missingOf x z ≢ 0 → Dec (z ≡ t) → missingOf b z ≢ 0
+    was-open : (z t : ℕ) (b x : Bridge) → Open b t → Elsewhere t (b .missing) (x .missing) → Open x z → Dec (z ≡ t) → Open b z
     was-open z t b x m e n (yes f) g = m (ap (missingOf b) (sym f) ∙ g)
     was-open z t b x m e n (no f) g = n (e z f ∙ g)
 move-both {h} ticks v =
@@ -339,8 +340,9 @@ module _ (s : Settings) where
       sent = length-replicate {A = ℕ} tagCount 0;
       owner = length-replicate {A = ℕ} tagCount 0;
       place = length-replicate {A = ℕ} tagCount 0;
+      next = length-replicate {A = ℕ} tagCount 0;
+      kind = length-replicate {A = ℕ} tagCount 0;
       state = length-replicate {A = ℕ} 8 0;
-      start = length-replicate {A = ℕ} 8 0;
       size = length-replicate {A = ℕ} 8 0;
       pieces = length-replicate {A = ℕ} 8 0;
       fault = length-replicate {A = ℕ} 8 0;

@@ -8,10 +8,10 @@ use lib.ListN.{length, getD}
 use Rattle.burst.specs.declared.Burst.{Burst}
 use Rattle.burst.specs.declared.Piece.{Piece}
 use Rattle.burst.specs.Bursts.{lengthOf}
-use Rattle.bridge.specs.declared.Bridge.{Bridge}
-use Rattle.bridge.specs.State.{missingOf, placeOf, ownerOf}
-use Rattle.bridge.specs.Memory.{piecesOf, pieceOf, placeIn}
-use Rattle.bridge.specs.Completions.{Held}
+use Rattle.machine.specs.Bridge.{Bridge}
+use Rattle.machine.specs.State.{missingOf, ownerOf, placeOf, Open}
+use Rattle.machine.specs.Memory.{piecesOf, pieceOf, placeIn}
+use Rattle.machine.specs.Completions.{Held}
 use Rattle.bridge_laws.specs.CompletionLaws.{SlotSame}
 use Rattle.trace.specs.Events.{Event}
 use Rattle.trace.specs.FarSide.{bytesSent, Wire}
@@ -28,8 +28,8 @@ pub record Same (b x : Bridge) (w z : Wire) (t : ℕ) : Type 0 where
 
 -- slot k has the same open tags
 pub record TagsStay (k : ℕ) (b x : Bridge) (w z : Wire) : Type 0 where
-  pub forth : (t : ℕ) → missingOf b t ≢ 0 → ownerOf b t ≡ k → Same b x w z t
-  pub back : (t : ℕ) → missingOf x t ≢ 0 → ownerOf x t ≡ k → (missingOf b t ≢ 0) × (ownerOf b t ≡ k)
+  pub forth : (t : ℕ) → Open b t → ownerOf b t ≡ k → Same b x w z t
+  pub back : (t : ℕ) → Open x t → ownerOf x t ≡ k → Open b t × (ownerOf b t ≡ k)
 
 -- the read of burst q in slot k, cut at multiples of l; its requests are numbered from i on
 module _ (sent : ℕ → List (List ℕ)) (l : ℕ) (pos : 0 < l) (q : Burst) (i k : ℕ) where
@@ -59,7 +59,7 @@ module _ (sent : ℕ → List (List ℕ)) (l : ℕ) (pos : 0 < l) (q : Burst) (i
   -- the byte at place y is missing for an open tag
   pub record Awaited (b : Bridge) (y : ℕ) : Type 0 where
     pub tag : ℕ
-    pub opens : missingOf b tag ≢ 0
+    pub opens : Open b tag
     pub owner : ownerOf b tag ≡ k
     pub from : placeOf b tag ≤ y
     pub to : y < placeOf b tag + missingOf b tag
@@ -67,14 +67,14 @@ module _ (sent : ℕ → List (List ℕ)) (l : ℕ) (pos : 0 < l) (q : Burst) (i
   -- an open tag has piece j
   pub record Pending (b : Bridge) (w : Wire) (j : ℕ) : Type 0 where
     pub tag : ℕ
-    pub opens : missingOf b tag ≢ 0
+    pub opens : Open b tag
     pub owner : ownerOf b tag ≡ k
     pub own : ownOf (w .live) tag ≡ i + j
 
   -- no piece has failed
   pub record Clean (h : Held) (w : Wire) (es : List Event) : Type 0 where
     pub size : getD (h .bridge .size) k 0 ≡ lengthOf q
-    pub tags : (t : ℕ) → missingOf (h .bridge) t ≢ 0 → ownerOf (h .bridge) t ≡ k → Mine (h .bridge) w es t
+    pub tags : (t : ℕ) → Open (h .bridge) t → ownerOf (h .bridge) t ≡ k → Mine (h .bridge) w es t
     pub bytes : (y : ℕ) → y < lengthOf q → (getD (h .store) (4096 * k + y) 0 ≡ right y) ⊎ Awaited (h .bridge) y
     pub whole : (j : ℕ) → j < piecesOf l q → Exact j ⊎ Pending (h .bridge) w j
 

@@ -1,4 +1,4 @@
--- What completions, ticks and link changes do to the tables by tag and to the free tags.
+-- What completions, ticks and link changes do to the columns by tag and to the free tags.
 use Prim.Native.Nat.{ℕ, zero, suc, _+_, _-_, _*_, _≤_, _<_}
 use mathlib.Core.Path.{_≡_, refl, sym, ap, subst, _∙_}
 use mathlib.Core.Logic.{_⊎_, inl, inr}
@@ -8,27 +8,29 @@ use lib.ListN.{getD, set, replicate}
 use lib.Seq.{paste}
 use lib.Dec.{ltb, leb, eqb}
 use Rattle.bits.specs.Bits.{setBit}
-use Rattle.bridge.specs.declared.Bridge.{Bridge}
+use Rattle.burst.specs.Words.{lowerAddress}
+use Rattle.machine.specs.Bridge.{Bridge}
 use Rattle.verdict.specs.declared.Cause.{Cause}
 use Rattle.verdict.specs.declared.Cause.the-variants.{Poison, Timeout}
 use Rattle.verdict.specs.declared.Verdict.{Verdict}
 use Rattle.verdict.specs.declared.Verdict.the-variants.{Good, Poisoned, Failed}
-use Rattle.bridge.specs.State.{tagCount, withConfig, coreIn, slotsIn, raisedCore, missingOf, placeOf, ownerOf, counted, shut, freed, slverr}
-use Rattle.bridge.specs.Verdict.{causeResponse}
-use Rattle.bridge.specs.Completions.{Held, held, faulted, failed, finished, pieceClosed, closed, usefulBytes, memoryCompleted, configDone, configAnswer, configCompleted, isUnexpected}
-use Rattle.bridge.specs.Ticks.{isOld, timedOut, expire, expireTo, linkLost, dropSlot, dropSlots}
+use Rattle.machine.specs.State.{tagCount, withConfig, coreIn, setPieces, setFault, setCause, raisedCore, missingOf, ownerOf, placeOf, counted, shut, freed, slverr}
+use Rattle.machine.specs.Verdict.{causeResponse}
+use Rattle.machine.specs.Completions.{Held, held, faulted, failed, finished, pieceClosed, closed, usefulBytes, memoryCompleted, configDone, configAnswer, configCompleted, isUnexpected}
+use Rattle.machine.specs.Ticks.{isOld, timedOut, expire, expireTo, linkLost, dropSlot, dropSlots}
 use Rattle.trace.proofs.Touch.{Served, good-part, good-last, poison-part, poison-last, failing, served}
 
--- two bridges have the same tags; slots may differ but for the first address
+-- two bridges have the same tags; slots may differ
 pub record TagsSame (b x : Bridge) : Type 0 where
   pub missing : x .missing ≡ b .missing
   pub owner : x .owner ≡ b .owner
   pub place : x .place ≡ b .place
-  pub start : x .start ≡ b .start
+  pub next : x .next ≡ b .next
+  pub kind : x .kind ≡ b .kind
   pub free : x .core .free ≡ b .core .free
 
 pub tags-same : (b : Bridge) → TagsSame b b
-tags-same b = record { missing = refl; owner = refl; place = refl; start = refl; free = refl }
+tags-same b = record { missing = refl; owner = refl; place = refl; next = refl; kind = refl; free = refl }
 
 pub tags-then : (b x y : Bridge) → TagsSame b x → TagsSame x y → TagsSame b y
 tags-then b x y p q =
@@ -36,7 +38,8 @@ tags-then b x y p q =
       missing = q .missing ∙ p .missing;
       owner = q .owner ∙ p .owner;
       place = q .place ∙ p .place;
-      start = q .start ∙ p .start;
+      next = q .next ∙ p .next;
+      kind = q .kind ∙ p .kind;
       free = q .free ∙ p .free;
     }
 
@@ -54,29 +57,29 @@ pub failed-tags : (k place : ℕ) (why : Cause) (b : Bridge) → TagsSame b (fai
 unfolding failed faulted raisedCore
 failed-tags k place why b =
     let f = tags-either (ltb place (getD (b .fault) k 0)) b
-    (slotsIn (b .state) (b .start) (b .size) (b .pieces) (set (b .fault) k place) (set (b .cause) k (causeResponse why)) b) b
-    (record { missing = refl; owner = refl; place = refl; start = refl; free = refl }) (tags-same b) in
-    record { missing = f .missing; owner = f .owner; place = f .place; start = f .start; free = f .free }
+    (setFault k place (setCause k (causeResponse why) b)) b
+    (record { missing = refl; owner = refl; place = refl; next = refl; kind = refl; free = refl }) (tags-same b) in
+    record { missing = f .missing; owner = f .owner; place = f .place; next = f .next; kind = f .kind; free = f .free }
 
 pub piece-tags : (k : ℕ) (h : Held) → TagsSame (h .bridge) (pieceClosed k h .bridge)
 unfolding pieceClosed finished
 piece-tags k h =
     held-either (leb (getD (h .bridge .pieces) k 0) 1) (h .bridge) (finished k h)
-    (held (slotsIn (h .bridge .state) (h .bridge .start) (h .bridge .size) (set (h .bridge .pieces) k (getD (h .bridge .pieces) k 0 - 1)) (h .bridge .fault) (h .bridge .cause) (h .bridge)) (h .store))
-    (record { missing = refl; owner = refl; place = refl; start = refl; free = refl })
-    (record { missing = refl; owner = refl; place = refl; start = refl; free = refl })
+    (held (setPieces k (getD (h .bridge .pieces) k 0 - 1) (h .bridge)) (h .store))
+    (record { missing = refl; owner = refl; place = refl; next = refl; kind = refl; free = refl })
+    (record { missing = refl; owner = refl; place = refl; next = refl; kind = refl; free = refl })
 
 -- ---- the verbs on a tag, of bridges with the same tags
 
 pub shut-tags : (t : ℕ) (b x : Bridge) → TagsSame b x → TagsSame (shut t b) (shut t x)
 unfolding shut
 shut-tags t b x p =
-    record { missing = ap (λ (l : List ℕ). set l t 0) (p .missing); owner = p .owner; place = p .place; start = p .start; free = p .free }
+    record { missing = ap (λ (l : List ℕ). set l t 0) (p .missing); owner = p .owner; place = p .place; next = p .next; kind = p .kind; free = p .free }
 
 pub freed-tags : (t : ℕ) (b x : Bridge) → TagsSame b x → TagsSame (freed t b) (freed t x)
 unfolding freed
 freed-tags t b x p =
-    record { missing = p .missing; owner = p .owner; place = p .place; start = p .start; free = ap (λ (w : ℕ). setBit tagCount w t) (p .free) }
+    record { missing = p .missing; owner = p .owner; place = p .place; next = p .next; kind = p .kind; free = ap (λ (w : ℕ). setBit tagCount w t) (p .free) }
 
 pub counted-tags : (t n : ℕ) (b x : Bridge) → TagsSame b x → TagsSame (counted t n b) (counted t n x)
 unfolding counted
@@ -85,7 +88,8 @@ counted-tags t n b x p =
       missing = ap (λ (l : List ℕ). set l t (getD l t 0 - n)) (p .missing);
       owner = p .owner;
       place = ap (λ (l : List ℕ). set l t (getD l t 0 + n)) (p .place);
-      start = p .start;
+      next = ap (λ (l : List ℕ). set l t (lowerAddress (getD l t 0 + n))) (p .next);
+      kind = p .kind;
       free = p .free;
     }
 
@@ -131,7 +135,7 @@ pub config-tags : (b : Bridge) (t : ℕ) (payload : List ℕ) (v : Verdict) → 
 unfolding configCompleted
 config-tags b t payload v =
     let x = coreIn (withConfig (configAnswer (b .core .config) payload v) (b .core)) b in
-    freed-tags t (shut t b) (shut t x) (shut-tags t b x (record { missing = refl; owner = refl; place = refl; start = refl; free = refl }))
+    freed-tags t (shut t b) (shut t x) (shut-tags t b x (record { missing = refl; owner = refl; place = refl; next = refl; kind = refl; free = refl }))
 
 -- ---- a tick
 
@@ -140,7 +144,8 @@ pub record Shrunk (b x : Bridge) : Type 0 where
   pub missing : (t : ℕ) → (missingOf x t ≡ missingOf b t) ⊎ (missingOf x t ≡ 0)
   pub owner : x .owner ≡ b .owner
   pub place : x .place ≡ b .place
-  pub start : x .start ≡ b .start
+  pub next : x .next ≡ b .next
+  pub kind : x .kind ≡ b .kind
   pub free : x .core .free ≡ b .core .free
 
 pub set-zero : (l : List ℕ) (t u : ℕ) → (getD (set l t 0) u 0 ≡ getD l u 0) ⊎ (getD (set l t 0) u 0 ≡ 0)
@@ -157,12 +162,13 @@ shrunk-by b x t p =
       missing = λ u. subst (λ (l : List ℕ). (getD l u 0 ≡ missingOf b u) ⊎ (getD l u 0 ≡ 0)) (sym (p .missing)) (set-zero (b .missing) t u);
       owner = p .owner;
       place = p .place;
-      start = p .start;
+      next = p .next;
+      kind = p .kind;
       free = p .free;
     }
 
 shrunk-same : (b : Bridge) → Shrunk b b
-shrunk-same b = record { missing = λ t. inl refl; owner = refl; place = refl; start = refl; free = refl }
+shrunk-same b = record { missing = λ t. inl refl; owner = refl; place = refl; next = refl; kind = refl; free = refl }
 
 shrunk-then : (b x y : Bridge) → Shrunk b x → Shrunk x y → Shrunk b y
 shrunk-then b x y p q =
@@ -170,7 +176,8 @@ shrunk-then b x y p q =
       missing = λ t. go t (p .missing t) (q .missing t);
       owner = q .owner ∙ p .owner;
       place = q .place ∙ p .place;
-      start = q .start ∙ p .start;
+      next = q .next ∙ p .next;
+      kind = q .kind ∙ p .kind;
       free = q .free ∙ p .free;
     }
   where
@@ -190,7 +197,7 @@ timed-tags t h true z =
     (shut-tags t (h .bridge) b (failed-tags k (placeOf (h .bridge) t) Timeout (h .bridge))) (piece-tags k x))
 timed-tags t h false z =
     let b = coreIn (raisedCore 8 (withConfig (configDone (h .bridge .core .config) slverr 0) (h .bridge .core))) (h .bridge) in
-    rw z (shut-tags t (h .bridge) b (record { missing = refl; owner = refl; place = refl; start = refl; free = refl }))
+    rw z (shut-tags t (h .bridge) b (record { missing = refl; owner = refl; place = refl; next = refl; kind = refl; free = refl }))
 
 expire-tags : (h : Held) (t : ℕ) (z : Bool) → isOld (h .bridge) t ≡ z → Shrunk (h .bridge) (expire h t .bridge)
 unfolding expire

@@ -10,12 +10,12 @@ use lib.ListN.{length, getD, drop}
 use lib.Dec.{eqb, ltb}
 use Rattle.ecam.specs.declared.Route.the-variants.{Local}
 use Rattle.address.specs.declared.Settings.{Settings}
-use Rattle.bridge.specs.declared.Bridge.{Bridge}
-use Rattle.bridge.specs.State.{tagCount, coreIn, withTicks, missingOf, ownerOf}
-use Rattle.bridge.specs.Config.{Access, routeOf, goesOut, configRefusal, localCore}
-use Rattle.bridge.specs.Completions.{storeSize, Held, held}
-use Rattle.bridge.specs.Ticks.{nextTick}
-use Rattle.bridge.specs.Take.{slotFreed}
+use Rattle.machine.specs.Bridge.{Bridge}
+use Rattle.machine.specs.State.{tagCount, withTicks, coreIn, missingOf, ownerOf}
+use Rattle.machine.specs.Config.{Access, routeOf, goesOut, configRefusal, localCore}
+use Rattle.machine.specs.Completions.{storeSize, Held, held}
+use Rattle.machine.specs.Ticks.{nextTick}
+use Rattle.machine.specs.Take.{slotFreed}
 use Rattle.bridge_laws.proofs.FreshLaws.{new-is-fresh}
 use Rattle.trace.specs.Events as event
 use Rattle.trace.specs.Events.{Event, step, run, start}
@@ -56,15 +56,15 @@ local-asks h a room w e = by (eqb (configRefusal (h .bridge) a room) 0) (goesOut
 
 pub release-tags : (k : ℕ) (b : Bridge) (z : Bool) → ltb k 8 ≡ z → TagsSame b (slotFreed k b)
 unfolding slotFreed
-release-tags k b true z = rw z (record { missing = refl; owner = refl; place = refl; start = refl; free = refl })
-release-tags k b false z = rw z (record { missing = refl; owner = refl; place = refl; start = refl; free = refl })
+release-tags k b true z = rw z (record { missing = refl; owner = refl; place = refl; next = refl; kind = refl; free = refl })
+release-tags k b false z = rw z (record { missing = refl; owner = refl; place = refl; next = refl; kind = refl; free = refl })
 
 pub local-tags : (b : Bridge) (a : Access) (w : ℕ) → TagsSame b (coreIn (localCore (b .core) a w) b)
 unfolding localCore
-local-tags b a w = record { missing = refl; owner = refl; place = refl; start = refl; free = refl }
+local-tags b a w = record { missing = refl; owner = refl; place = refl; next = refl; kind = refl; free = refl }
 
 core-tags : (h : Held) → TagsSame (h .bridge) (coreIn (withTicks (nextTick (h .bridge .core .ticks)) (h .bridge .core)) (h .bridge))
-core-tags h = record { missing = refl; owner = refl; place = refl; start = refl; free = refl }
+core-tags h = record { missing = refl; owner = refl; place = refl; next = refl; kind = refl; free = refl }
 
 module _ (sent : ℕ → List (List ℕ)) where
   pub same-wired : (h x : Held) (w : Wire) (es : List Event) → TagsSame (h .bridge) (x .bridge) → Wired sent h w es → Wired sent x w es
@@ -83,7 +83,8 @@ module _ (sent : ℕ → List (List ℕ)) where
           (record {
             missing = z;
             owner = ap (λ (l : List ℕ). getD l t 0) (p .owner);
-            next = λ m o. rw (p .start, p .owner, p .place);
+            next = ap (λ (l : List ℕ). getD l t 0) (p .next);
+            kind = ap (λ (l : List ℕ). getD l t 0) (p .kind);
             free = λ y. rw (p .free) at y;
           }) (v .tags t)
       by t (inr z) = record { quiet = λ y. v .tags t .quiet (rw (p .free) at y); opens = λ m. absurd (m z) }
@@ -111,9 +112,9 @@ module _ (sent : ℕ → List (List ℕ)) where
   pub move-wired : (h : Held) (e : Event) (x : Held) → Move h e x → (w : Wire) (es : List Event) → Sound h → Sound x → Paired w e → AllAnswered sent (w .count) (asked h e)
       → Wired sent h w (e ∷ es) → Wired sent x (wireAfter w h e) es
   move-wired h e x (idle r s a l) w es g g' p q v =
-      rest-wired h x e w es (idle-wire h e w s a) (record { missing = refl; owner = refl; place = refl; start = refl; free = refl }) v
+      rest-wired h x e w es (idle-wire h e w s a) (record { missing = refl; owner = refl; place = refl; next = refl; kind = refl; free = refl }) v
   move-wired h e x (missed r f l) w es g g' p q v =
-      rest-wired h x e w es refl (record { missing = refl; owner = refl; place = refl; start = refl; free = refl }) v
+      rest-wired h x e w es refl (record { missing = refl; owner = refl; place = refl; next = refl; kind = refl; free = refl }) v
   move-wired h e x (reads {q = b} {room = room} f) w es g g' p q v =
       let z = asked-read h b room f in
       subst (λ (l : List _). Wired sent x (sending w l) es) (sym z) (read-wired sent h b room g f w es g' v (rw z at q))
@@ -130,7 +131,7 @@ module _ (sent : ℕ → List (List ℕ)) where
       let y = held (coreIn (withTicks (nextTick (h .bridge .core .ticks)) (h .bridge .core)) (h .bridge)) (h .store) in
       shrunk-wired y x w es (expires-tags y tagCount) (same-wired h y w es (core-tags h) (wired-later sent h w event.tick es v))
   move-wired h e x (drops l) w es g g' p q v = bare-wired x w (event.link false) es (v .labels) (lost-tags h) h v
-  move-wired h e x (links up o) w es g g' p q v = link-wired h x up w es (record { missing = refl; owner = refl; place = refl; start = refl; free = refl }) g o v
+  move-wired h e x (links up o) w es g g' p q v = link-wired h x up w es (record { missing = refl; owner = refl; place = refl; next = refl; kind = refl; free = refl }) g o v
   move-wired h e x (releases {k = k} r) w es g g' p q v = rest-wired h x e w es refl (release-tags k (h .bridge) (ltb k 8) refl) v
 
   pub step-wired : (h : Held) (e : Event) (w : Wire) (es : List Event) → Sound h → Along sent h w (e ∷ es) → Wired sent h w (e ∷ es) → Wired sent (step h e .after) (wireAfter w h e) es

@@ -4,11 +4,11 @@ use mathlib.Core.Path.{_≡_}
 use mathlib.Core.List.{List, [], _∷_, _++_}
 use mathlib.Core.Bool.{true, false}
 use lib.ListN.{length, replicate}
-use Rattle.bridge.specs.State.{freeSlot, registersOf}
-use Rattle.bridge.specs.Memory.{areaSize, piecesOf, pieceOf, readRefusal}
-use Rattle.bridge.specs.Config.{Access, accessOf, routeOf, goesOut, configRefusal}
-use Rattle.bridge.specs.Completions.{storeSize, Held}
-use Rattle.bridge.specs.Take.{looked}
+use Rattle.machine.specs.State.{freeSlot, registersOf}
+use Rattle.machine.specs.Memory.{areaSize, piecesOf, pieceOf, readRefusal}
+use Rattle.machine.specs.Config.{Access, accessOf, routeOf, goesOut, configRefusal}
+use Rattle.machine.specs.Completions.{storeSize, Held}
+use Rattle.machine.specs.Take.{looked}
 use Rattle.trace.specs.Events.{Event, read, config, completion, tick, link, look, release, step, run, start, seen}
 use Rattle.trace.specs.FarSide.{requests, paired, FarSide}
 use Rattle.trace.specs.Claims.{Answered, AnsweredOkay, Untaken, Until, sentFor, Bytes, ticks, ReadDeadline, ConfigDeadline, Steady, goodBytes, ReadOkay, anyGoodWord, ConfigOkay, LocalOkay, Left, Alike}

@@ -13,14 +13,14 @@ use Rattle.address.specs.declared.Settings.{Settings}
 use Rattle.burst.specs.declared.Burst.{Burst}
 use Rattle.burst.specs.Bursts.{lengthOf}
 use Rattle.burst.specs.Pieces.{addresses}
-use Rattle.bridge.specs.declared.Bridge.{Bridge}
-use Rattle.parts.specs.declared.Response.the-variants.{Okay}
-use Rattle.bridge.specs.State.{freeSlot, registersOf}
-use Rattle.bridge.specs.Memory.{piecesOf, pieceOf, readRefusal}
-use Rattle.bridge.specs.Config.{Access, routeOf, goesOut, configRefusal}
-use Rattle.bridge.specs.Verdict.{useful, configShape}
-use Rattle.bridge.specs.Completions.{storeSize, Held, completionOf}
-use Rattle.bridge.specs.Take.{stateOf, takeRefusal, looked, releaseStep}
+use Rattle.machine.specs.Bridge.{Bridge}
+use Rattle.refusals.specs.declared.Response.the-variants.{Okay}
+use Rattle.machine.specs.State.{freeSlot, registersOf}
+use Rattle.machine.specs.Memory.{piecesOf, pieceOf, readRefusal}
+use Rattle.machine.specs.Config.{Access, routeOf, goesOut, configRefusal}
+use Rattle.machine.specs.Verdict.{useful, configShape}
+use Rattle.machine.specs.Completions.{storeSize, Held, completionOf}
+use Rattle.machine.specs.Take.{stateOf, takeRefusal, looked, releaseStep}
 use Rattle.trace.specs.Events.{Event, read, write, config, completion, tick, link, look, release, step, run, start, seen}
 use Rattle.trace.specs.FarSide.{bytesSent, requests, paired, carries, FarSide}
 

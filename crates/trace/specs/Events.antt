@@ -9,12 +9,12 @@ use Rattle.address.specs.declared.Settings.{Settings}
 use Rattle.ecam.specs.declared.Registers.{Registers}
 use Rattle.burst.specs.declared.Burst.{Burst}
 use Rattle.parts.specs.declared.Answer.{Answer}
-use Rattle.bridge.specs.State.{newBridge, registersOf}
-use Rattle.bridge.specs.Memory.{readRefusal, readBytes, readStep, writeRefusal, writeBytes, writeStep}
-use Rattle.bridge.specs.Config.{Access, configRefusal, configBytes, configStep}
-use Rattle.bridge.specs.Completions.{Held, held, completed, completeStep, plain}
-use Rattle.bridge.specs.Ticks.{ticked, tickStep, linked, linkStep}
-use Rattle.bridge.specs.Take.{takeRefusal, looked, releaseStep}
+use Rattle.machine.specs.State.{newBridge, registersOf}
+use Rattle.machine.specs.Memory.{readRefusal, readBytes, readStep, writeRefusal, writeBytes, writeStep}
+use Rattle.machine.specs.Config.{Access, configRefusal, configBytes, configStep}
+use Rattle.machine.specs.Completions.{Held, held, completed, completeStep, plain}
+use Rattle.machine.specs.Ticks.{ticked, tickStep, linked, linkStep}
+use Rattle.machine.specs.Take.{takeRefusal, looked, releaseStep}
 
 -- the arguments of each call; of a lent sending area, its length. The number beside a completion is no part of it: it names
 -- the request that the far side answers with it, and `step` does not see it

@@ -9,12 +9,12 @@ use Rattle.address.specs.declared.Settings.{Settings}
 use Rattle.address.specs.Settings.{exampleWindows}
 use Rattle.address.specs.Windows.{axi}
 use Rattle.burst.specs.declared.Burst.{Burst}
-use Rattle.parts.specs.declared.Response.{Response}
-use Rattle.parts.specs.declared.Response.the-variants.{Nothing, Okay, Slverr, Decerr}
-use Rattle.bridge.specs.State.{registersOf}
-use Rattle.bridge.specs.Memory.{areaSize}
-use Rattle.bridge.specs.Config.{Access, accessOf}
-use Rattle.bridge.specs.Completions.{storeSize, Held}
+use Rattle.refusals.specs.declared.Response.{Response}
+use Rattle.refusals.specs.declared.Response.the-variants.{Nothing, Okay, Slverr, Decerr}
+use Rattle.machine.specs.State.{registersOf}
+use Rattle.machine.specs.Memory.{areaSize}
+use Rattle.machine.specs.Config.{Access, accessOf}
+use Rattle.machine.specs.Completions.{storeSize, Held}
 use Rattle.trace.specs.Events.{Event, read, config, completion, tick, link, look, release, step, run, start, Seen, seen}
 use Rattle.trace.specs.FarSide.{Ask, asked, FarSide}
 

@@ -12,12 +12,12 @@ use Rattle.tlp.specs.declared.completion.CompletionRead.{CompletionRead}
 use Rattle.tlp.specs.declared.completion.CompletionRead.the-variants.{Header, Malformed}
 use Rattle.burst.specs.declared.Burst.{Burst}
 use Rattle.burst.specs.Pieces.{addresses}
-use Rattle.bridge.specs.declared.Bridge.{Bridge}
-use Rattle.bridge.specs.State.{tagCount}
-use Rattle.bridge.specs.Memory.{pcieOf, piecesOf, pieceOf, readRefusal}
-use Rattle.bridge.specs.Config.{Access, routeOf, goesOut, configRefusal}
-use Rattle.bridge.specs.Verdict.{useful}
-use Rattle.bridge.specs.Completions.{Held, completionOf, usefulBytes}
+use Rattle.machine.specs.Bridge.{Bridge}
+use Rattle.machine.specs.State.{tagCount}
+use Rattle.machine.specs.Memory.{pcieOf, piecesOf, pieceOf, readRefusal}
+use Rattle.machine.specs.Config.{Access, routeOf, goesOut, configRefusal}
+use Rattle.machine.specs.Verdict.{useful}
+use Rattle.machine.specs.Completions.{Held, completionOf, usefulBytes}
 use Rattle.trace.specs.Events.{Event, read, write, config, completion, tick, link, look, release, step}
 
 -- ---- the requests sent; 'no memory write'

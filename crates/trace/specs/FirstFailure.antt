@@ -11,17 +11,17 @@ use Rattle.tlp.specs.declared.completion.CompletionRead.{CompletionRead}
 use Rattle.tlp.specs.declared.completion.CompletionRead.the-variants.{Header, Malformed}
 use Rattle.address.specs.declared.Settings.{Settings}
 use Rattle.burst.specs.declared.Burst.{Burst}
-use Rattle.bridge.specs.declared.Bridge.{Bridge}
+use Rattle.machine.specs.Bridge.{Bridge}
 use Rattle.verdict.specs.declared.Cause.{Cause}
 use Rattle.verdict.specs.declared.Cause.the-variants.{Poison, Timeout}
 use Rattle.verdict.specs.declared.Verdict.{Verdict}
 use Rattle.verdict.specs.declared.Verdict.the-variants.{Unexpected, Good, Poisoned, Failed}
-use Rattle.bridge.specs.State.{tagCount, withTicks, coreIn, placeOf, ownerOf, freeSlot, okay, responseOf}
-use Rattle.bridge.specs.Memory.{readRefusal}
-use Rattle.bridge.specs.Verdict.{causeResponse}
-use Rattle.bridge.specs.Completions.{storeSize, Held, completionOf, verdictOf}
-use Rattle.bridge.specs.Ticks.{nextTick, isOld}
-use Rattle.bridge.specs.Take.{releaseStep}
+use Rattle.machine.specs.State.{tagCount, withTicks, coreIn, placeOf, ownerOf, freeSlot, okay, responseOf}
+use Rattle.machine.specs.Memory.{readRefusal}
+use Rattle.machine.specs.Verdict.{causeResponse}
+use Rattle.machine.specs.Completions.{storeSize, Held, completionOf, verdictOf}
+use Rattle.machine.specs.Ticks.{nextTick, isOld}
+use Rattle.machine.specs.Take.{releaseStep}
 use Rattle.trace.specs.Events.{Event, read, write, config, completion, tick, link, look, release, step, run, start}
 use Rattle.trace.specs.Claims.{Answered, Untaken, Steady}
 

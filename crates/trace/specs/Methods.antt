@@ -5,14 +5,14 @@ use mathlib.Core.List.{List, []}
 use mathlib.Core.Bool.{Bool}
 use lib.ListN.{length}
 use Rattle.burst.specs.declared.Burst.{Burst}
-use Rattle.bridge.specs.declared.Bridge.{Bridge}
+use Rattle.machine.specs.Bridge.{Bridge}
 use Rattle.parts.specs.declared.Answer.{Answer}
-use Rattle.bridge.specs.declared.Answered.{Answered}
-use Rattle.bridge.specs.Memory.{filled, readStep, readArea, writeStep, writeArea}
-use Rattle.bridge.specs.Config.{accessOf, configStep, configArea}
-use Rattle.bridge.specs.Completions.{Held, held, completed, completeStep}
-use Rattle.bridge.specs.Ticks.{ticked, tickStep, linked, linkStep}
-use Rattle.bridge.specs.Take.{takeRefusal, looked, releaseStep}
+use Rattle.machine.specs.State.{Answered}
+use Rattle.machine.specs.Memory.{filled, readStep, readArea, writeStep, writeArea}
+use Rattle.machine.specs.Config.{accessOf, configStep, configArea}
+use Rattle.machine.specs.Completions.{Held, held, completed, completeStep}
+use Rattle.machine.specs.Ticks.{ticked, tickStep, linked, linkStep}
+use Rattle.machine.specs.Take.{takeRefusal, looked, releaseStep}
 use Rattle.trace.specs.Events.{Event, read, write, config, completion, tick, link, look, release, Result, step}
 
 -- a method that answers with r: the store after it, and its area before and after; where it has no area, both are empty

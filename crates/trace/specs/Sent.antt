@@ -7,10 +7,10 @@ use lib.ListN.{length}
 use Rattle.tlp.specs.Request.{requestBytes}
 use Rattle.address.specs.declared.Settings.{Settings}
 use Rattle.burst.specs.declared.Burst.{Burst}
-use Rattle.bridge.specs.declared.Bridge.{Bridge}
-use Rattle.bridge.specs.Memory.{memoryRequest}
-use Rattle.bridge.specs.Config.{Access, routeOf, routedRequest, payloadOf}
-use Rattle.bridge.specs.Completions.{storeSize, Held}
+use Rattle.machine.specs.Bridge.{Bridge}
+use Rattle.machine.specs.Memory.{memoryRequest}
+use Rattle.machine.specs.Config.{Access, routeOf, routedRequest, payloadOf}
+use Rattle.machine.specs.Completions.{storeSize, Held}
 use Rattle.trace.specs.Events.{Event, read, write, config, completion, tick, link, look, release, step, run, start}
 use Rattle.trace.specs.FarSide.{Wanted, bytes, word, Ask, asked}
 

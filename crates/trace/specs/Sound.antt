@@ -9,11 +9,11 @@ use lib.Dec.{eqb, ltb}
 use Rattle.bits.specs.Bits.{isSet}
 use Rattle.address.specs.declared.Settings.{Settings}
 use Rattle.address.specs.Settings.{settingsNumber}
-use Rattle.bridge.specs.declared.Bridge.{Bridge}
-use Rattle.bridge.specs.State.{tagCount, missingOf, placeOf, ownerOf, registersOf}
-use Rattle.bridge.specs.Completions.{storeSize, Held}
-use Rattle.bridge.specs.Ticks.{ageOf}
-use Rattle.bridge.specs.Take.{stateOf}
+use Rattle.machine.specs.Bridge.{Bridge}
+use Rattle.machine.specs.State.{tagCount, slotCount, missingOf, ownerOf, placeOf, Open, registersOf}
+use Rattle.machine.specs.Completions.{storeSize, Held}
+use Rattle.machine.specs.Ticks.{ageOf}
+use Rattle.machine.specs.Take.{stateOf}
 use Rattle.trace.specs.Events.{Event, run, start}
 
 -- tag t is open for slot k
@@ -29,18 +29,19 @@ openIn b k (suc n) = openIn b k n + cond (named b k n) 1 0
 abbrev pub piecesIn : Bridge → ℕ → ℕ
 piecesIn b k = cond (eqb (stateOf b k) 1) (cond (ltb k 8) (getD (b .pieces) k 0) 1) 0
 
--- the tables have an entry for each tag and each slot
+-- the columns have an entry for each tag and each slot
 pub record Sizes (b : Bridge) : Type 0 where
   pub missing : length (b .missing) ≡ tagCount
   pub sent : length (b .sent) ≡ tagCount
   pub owner : length (b .owner) ≡ tagCount
   pub place : length (b .place) ≡ tagCount
-  pub state : length (b .state) ≡ 8
-  pub start : length (b .start) ≡ 8
-  pub size : length (b .size) ≡ 8
-  pub pieces : length (b .pieces) ≡ 8
-  pub fault : length (b .fault) ≡ 8
-  pub cause : length (b .cause) ≡ 8
+  pub next : length (b .next) ≡ tagCount
+  pub kind : length (b .kind) ≡ tagCount
+  pub state : length (b .state) ≡ slotCount
+  pub size : length (b .size) ≡ slotCount
+  pub pieces : length (b .pieces) ≡ slotCount
+  pub fault : length (b .fault) ≡ slotCount
+  pub cause : length (b .cause) ≡ slotCount
 
 -- an open tag is not free, its missing bytes lie in its slot's burst, and it is not yet as old as the time limit
 pub record OpenTag (b : Bridge) (t : ℕ) : Type 0 where
@@ -55,7 +56,7 @@ pub record Sound (h : Held) : Type 0 where
   pub right : settingsNumber (h .bridge .settings) ≡ 0
   pub sizes : Sizes (h .bridge)
   pub clock : h .bridge .core .ticks < 2 ^ 32
-  pub tags : (t : ℕ) → missingOf (h .bridge) t ≢ 0 → OpenTag (h .bridge) t
+  pub tags : (t : ℕ) → Open (h .bridge) t → OpenTag (h .bridge) t
   -- a slot's open pieces are the tags that are open for it
   pub count : (k : ℕ) → openIn (h .bridge) k tagCount ≡ piecesIn (h .bridge) k
   pub alive : (k : ℕ) → k < 8 → getD (h .bridge .state) k 0 ≡ 1 → 0 < getD (h .bridge .pieces) k 0

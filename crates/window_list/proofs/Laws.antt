@@ -10,7 +10,7 @@ use lib.Seq.{length-take-le, take-all}
 use lib.Dec.{ltb}
 use Rattle.address.specs.declared.Settings.{Settings}
 use Rattle.address.specs.Settings.{windowsRight, settingsRight, settingsNumber}
-use Rattle.bridge.specs.State.{freshBridge, accepted, newBridge}
+use Rattle.machine.specs.State.{freshBridge, accepted, newBridge}
 use Rattle.window_list.specs.declared.Window.{Window}
 use Rattle.window_list.specs.declared.Others.{Others}
 use Rattle.window_list.specs.List.{zeros, nth, countOf, windowsOf, settingsOf}

@@ -5,7 +5,7 @@ use mathlib.Core.List.{List, []}
 use lib.ListN.{getD, length}
 use Rattle.address.specs.declared.Windows.{Windows}
 use Rattle.address.specs.Settings.{settingsNumber, exampleSettings}
-use Rattle.bridge.specs.State.{refused, freshBridge, newBridge}
+use Rattle.machine.specs.State.{refused, freshBridge, newBridge}
 use Rattle.window_list.specs.declared.Window.{Window}
 use Rattle.window_list.specs.declared.Others.{Others}
 use Rattle.window_list.specs.List.{nth, settingsOf}

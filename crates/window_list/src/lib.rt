@@ -5,7 +5,8 @@ use bridge::Answered;
 use bridge::Bridge;
 ghost use mathlib.Core.Path.{_≡_};
 ghost use lib.ListN.{take};
-ghost use Rattle.bridge.specs.State.{newBridge};
+ghost use Rattle.machine.specs.State.{newBridge};
+ghost use Rattle.bridge.specs.View.{stepOf};
 ghost use Rattle.window_list.specs.List.{nth, countOf, windowsOf, settingsWith, settingsOf};
 
 // One window: its base on the AXI side, its size in bytes, its target on the PCIe side.
@@ -75,7 +76,7 @@ fn windows_of(n: usize, six: [Window; 6]) -> Windows
 
 // The bridge with the first n of six records, by value.
 pub fn bridge_from_six(n: usize, six: [Window; 6], others: Others) -> Answered
-    ensures { λ r. ⌜ r ≡ newBridge (settingsWith (windowsOf n six) others) ⌝ }
+    ensures { λ r. ⌜ stepOf r ≡ newBridge (settingsWith (windowsOf n six) others) ⌝ }
 {
     let windows = windows_of(n, six);
     Bridge::new(Settings {
@@ -90,7 +91,7 @@ pub fn bridge_from_six(n: usize, six: [Window; 6], others: Others) -> Answered
 
 // The bridge with the windows of a list; for none, or more than six, that of the worked examples, and 1.
 pub fn bridge_from_list(list: &[Window], others: Others) -> Answered
-    ensures { λ r. ⌜ r ≡ newBridge (settingsOf (now (list .entry)) others) ⌝ }
+    ensures { λ r. ⌜ stepOf r ≡ newBridge (settingsOf (now (list .entry)) others) ⌝ }
 {
     let six = [
         nth(list, 0),
@@ -115,7 +116,7 @@ fn within_seven(n: usize) -> usize
 
 // The bridge with the first n of seven records, all seven where n is larger: the list is lent here, so that callers lend none.
 pub fn bridge_from_first(n: usize, seven: [Window; 7], others: Others) -> Answered
-    ensures { λ r. ⌜ r ≡ newBridge (settingsOf (take n seven) others) ⌝ }
+    ensures { λ r. ⌜ stepOf r ≡ newBridge (settingsOf (take n seven) others) ⌝ }
 {
     let k = within_seven(n);
     bridge_from_list(&seven[..k], others)

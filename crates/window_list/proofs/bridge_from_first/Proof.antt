@@ -41,7 +41,8 @@ use denote.Triple.Table.{entered, cited}
 use denote.Triple.Walked.{walkOf}
 use borrow.Rule.Slice.Prefix.{shs-prefix-same}
 use borrow.Table.Owned as bare
-use Rattle.bridge.specs.State.{newBridge}
+use Rattle.machine.specs.State.{newBridge}
+use Rattle.bridge.specs.View.{stepOf}
 use Rattle.bridge.specs.declared.Answered.{Answered}
 use Rattle.bridge.proofs.Answered as answered
 use Rattle.bridge.proofs.Answered.Laws as answered-laws
@@ -162,7 +163,7 @@ module _ {M : Type 1} (𝓤 : URA M) (H : Heap 𝓤) (A : Atoms 𝓤) (W : Given
     abbrev Ends : Val → SProp 𝓤
     Ends = walkOf 𝓤 H A own.ended (Left 𝓤 H A W own.ended (own.clauses 𝓤 H A mem run)) (own.clauses 𝓤 H A mem run) .post bound
 
-    leave : (r : Answered) (u : Val) → r ≡ newBridge (settingsOf firsts rest) → ent 𝓤 (sem 𝓤 H A (answered.the-row .own r (u ∷ []))) (Ends u)
+    leave : (r : Answered) (u : Val) → stepOf r ≡ newBridge (settingsOf firsts rest) → ent 𝓤 (sem 𝓤 H A (answered.the-row .own r (u ∷ []))) (Ends u)
     leave r u e =
         qed W (‵ (answered.the-row .own r (u ∷ [])) ∷ []) ∵
         suffices ! _ (ended 𝓤 H A W own.ended (own.clauses 𝓤 H A mem run) bound u r (tt, (tt, (tt, tt))) (factI 𝓤 _ _ e)) $
@@ -208,7 +209,7 @@ module _ {M : Type 1} (𝓤 : URA M) (H : Heap 𝓤) (A : Atoms 𝓤) (W : Given
           move ! (2 ∷ 0 ∷ []) $
           join ! $
           use1 W (raw (sem 𝓤 H A (fsep (flft (α ∷ []) fullShare) ftrue))) (id⊢ 𝓤 _) $
-          asks ! fm list-fn.ended (list-fn.clauses 𝓤 H A mem run) list-meets (to-list α stored γ) (id⊢ 𝓤 (emp 𝓤)) (λ (r : Answered). r ≡ newBridge (settingsOf firsts rest)) (λ r ws. id⊢ 𝓤 _)
+          asks ! fm list-fn.ended (list-fn.clauses 𝓤 H A mem run) list-meets (to-list α stored γ) (id⊢ 𝓤 (emp 𝓤)) (λ (r : Answered). stepOf r ≡ newBridge (settingsOf firsts rest)) (λ r ws. id⊢ 𝓤 _)
           (and-then ! (var ! 2 refl) (and-then ! (var ! 9 refl) (no-more !))) (λ v r said.
           use1 W (‵ (flft (α ∷ []) fullShare) ⊛ ‵ ftrue) (id⊢ 𝓤 _) $
           split ! $

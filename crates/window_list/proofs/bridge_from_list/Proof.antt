@@ -34,7 +34,8 @@ use denote.Triple.Spec.{tripleOf}
 use denote.Triple.Statement.{Triple}
 use denote.Triple.Table.{entered, cited}
 use denote.Triple.Walked.{walkOf}
-use Rattle.bridge.specs.State.{newBridge}
+use Rattle.machine.specs.State.{newBridge}
+use Rattle.bridge.specs.View.{stepOf}
 use Rattle.bridge.specs.declared.Answered.{Answered}
 use Rattle.bridge.proofs.Answered as answered
 use Rattle.bridge.proofs.Answered.Laws as answered-laws
@@ -116,7 +117,7 @@ module _ {M : Type 1} (𝓤 : URA M) (H : Heap 𝓤) (A : Atoms 𝓤) (W : Given
         keep ! (2 ∷ 0 ∷ []) $
         done !
 
-    leave : (r : Answered) (u : Val) → r ≡ newBridge (settingsOf list rest) → ent 𝓤 (⋆ 𝓤 H A (‵ (answered.the-row .own r (u ∷ [])) ∷ Live ∷ ‵ Lent ∷ [])) (Ends u)
+    leave : (r : Answered) (u : Val) → stepOf r ≡ newBridge (settingsOf list rest) → ent 𝓤 (⋆ 𝓤 H A (‵ (answered.the-row .own r (u ∷ [])) ∷ Live ∷ ‵ Lent ∷ [])) (Ends u)
     leave r u e =
         qed W (‵ (answered.the-row .own r (u ∷ [])) ∷ Live ∷ ‵ Lent ∷ []) ∵
         suffices ! _ (ended 𝓤 H A W own.ended (own.clauses 𝓤 H A mem run) bound u r (tt, (tt, tt)) (factI 𝓤 _ _ e)) $
@@ -169,7 +170,7 @@ module _ {M : Type 1} (𝓤 : URA M) (H : Heap 𝓤) (A : Atoms 𝓤) (W : Given
           fills ! 2 (of-opd ! (load ! (from ! (fld ! refl (stop !))) (look-in ! 20 (sub ! 1 refl (whole !))))) refl (tt, record { fits = is-lent .0 .1 .0 }) $
           use0 W (‵ _) (passes-six u₀ u₁ u₂ u₃ u₄ u₅ (is-lent .0 .1 .0) (is-six u₀ u₁ u₂ u₃ u₄ u₅ i₀ i₁ i₂ i₃ i₄ i₅)) $
           use0 W (raw (emp 𝓤)) (id⊢ 𝓤 _) $
-          asks ! fm six-fn.ended (six-fn.clauses 𝓤 H A mem run) six-meets (to-six u₀ u₁ u₂ u₃ u₄ u₅) (id⊢ 𝓤 (emp 𝓤)) (λ (r : Answered). r ≡ newBridge (settingsOf list rest)) (λ r ws. id⊢ 𝓤 _)
+          asks ! fm six-fn.ended (six-fn.clauses 𝓤 H A mem run) six-meets (to-six u₀ u₁ u₂ u₃ u₄ u₅) (id⊢ 𝓤 (emp 𝓤)) (λ (r : Answered). stepOf r ≡ newBridge (settingsOf list rest)) (λ r ws. id⊢ 𝓤 _)
           (and-then ! (var ! 3 refl) (and-then ! (var ! 17 refl) (and-then ! (var ! 19 refl) (no-more !)))) (λ u r e.
           drop ! $
           peeks ! answered.the-row (Is answered.the-row) (shows 𝓤 H A answered.the-row) r (u ∷ []) (λ is.

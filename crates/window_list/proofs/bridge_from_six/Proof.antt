@@ -3,15 +3,12 @@ use borrow.Author.Needs.{needs}
 use Rattle.window_list.proofs.bridge_from_six.Statement.{statement}
 use Rattle.window_list.proofs.bridge_from_six.Tie as tie
 
--- src/lib.rt:73:9
 windows-of-requires : tie.Need-windows-of-requires
 windows-of-requires c κs = search needs
 
--- src/lib.rt:74:5
 new-requires : tie.Need-new-requires
 new-requires c κs = search needs
 
--- src/lib.rt:70:1
 returns : tie.Need-returns
 returns c = rw (c .before .windows-of .ensures) at (c .new .ensures)
 

@@ -3,35 +3,27 @@ use borrow.Author.Needs.{needs}
 use Rattle.window_list.proofs.windows_of.Statement.{statement}
 use Rattle.window_list.proofs.windows_of.Tie as tie
 
--- src/lib.rt:55:14
 array-copy-out-w0 : tie.Need-array-copy-out-w0
 array-copy-out-w0 c = search needs
 
--- src/lib.rt:56:14
 array-copy-out-w1 : tie.Need-array-copy-out-w1
 array-copy-out-w1 c = search needs
 
--- src/lib.rt:57:14
 array-copy-out-w2 : tie.Need-array-copy-out-w2
 array-copy-out-w2 c = search needs
 
--- src/lib.rt:58:14
 array-copy-out-w3 : tie.Need-array-copy-out-w3
 array-copy-out-w3 c = search needs
 
--- src/lib.rt:59:14
 array-copy-out-w4 : tie.Need-array-copy-out-w4
 array-copy-out-w4 c = search needs
 
--- src/lib.rt:60:14
 array-copy-out-w5 : tie.Need-array-copy-out-w5
 array-copy-out-w5 c = search needs
 
--- src/lib.rt:62:16
 count-of-requires : tie.Need-count-of-requires
 count-of-requires c κs = search needs
 
--- src/lib.rt:52:1
 returns : tie.Need-returns
 returns c = rw (c .count-of .ensures)
 
