@@ -8,19 +8,15 @@ use Rattle.header_vectors.proofs.say_first.Reads as reads
 use Rattle.header_vectors.proofs.say_first.Lts as lts
 use Rattle.header_vectors.proofs.say.Reads as say-reads
 
--- src/main.rt:122:19
 slice-aggregate-say : tie.Need-slice-aggregate-say
 slice-aggregate-say c = sym (length-take-le (c .before .before .before .before .args .n) (now (c .before .before .before .before .args .bytes)) (c .before .if1 .taken))
 
--- src/main.rt:122:9
 say-requires : tie.Need-say-requires
 say-requires c κs = search needs
 
--- src/main.rt:120:1
 returns : tie.Need-returns
 returns c = search needs
 
--- src/main.rt:120:1
 returns-2 : tie.Need-returns-2
 returns-2 c = search needs
 

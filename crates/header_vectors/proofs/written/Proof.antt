@@ -11,27 +11,21 @@ use Rattle.header_vectors.proofs.label.Reads as label-reads
 use Rattle.header_vectors.proofs.number.Reads as number-reads
 use Rattle.header_vectors.proofs.show.Reads as show-reads
 
--- src/main.rt:39:5
 label-requires : tie.Need-label-requires
 label-requires c κs = search needs
 
--- src/main.rt:41:9
 number-requires : tie.Need-number-requires
 number-requires c κs = search needs
 
--- src/main.rt:44:14
 slice-aggregate-show : tie.Need-slice-aggregate-show
 slice-aggregate-show c = sym (length-take-le (c .before .before .before .before .before .before .args .length) (now (c .before .before .before .before .before .before .args .area)) (c .before .if2 .taken))
 
--- src/main.rt:44:9
 show-requires : tie.Need-show-requires
 show-requires c κs = search needs
 
--- src/main.rt:46:5
 end-line-requires : tie.Need-end-line-requires
 end-line-requires c κs = search needs
 
--- src/main.rt:38:1
 returns : tie.Need-returns
 returns c = search needs
 

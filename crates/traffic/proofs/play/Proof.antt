@@ -6,10 +6,10 @@ use Rattle.traffic.proofs.play.Statement.{statement}
 use Rattle.traffic.proofs.play.Tie as tie
 
 abbrev Inv-loop : tie.InvT-loop
-Inv-loop bytes₀ store₀ area₀ q₀ left₀ bytes store area q left = (length bytes ≡ length bytes₀) × (length store ≡ length store₀) × (length area ≡ length area₀)
+Inv-loop bytes₀ store₀ area₀ s₀ left₀ bytes store area s left = (length bytes ≡ length bytes₀) × (length store ≡ length store₀) × (length area ≡ length area₀)
 
 abbrev μ-loop : tie.MeasureT-loop
-μ-loop bytes₀ store₀ area₀ q₀ left₀ bytes store area q left = left
+μ-loop bytes₀ store₀ area₀ s₀ left₀ bytes store area s left = left
 
 loop-holds : tie.Need-loop-holds Inv-loop μ-loop
 loop-holds c = search needs

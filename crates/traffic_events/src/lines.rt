@@ -1,0 +1,112 @@
+// The lines of the bridge's events.
+use bridge::Answer;
+use bridge::Response;
+use ecam::Registers;
+use ecam::local_read;
+use traffic_file::record;
+use traffic_text::line::ROOM;
+use traffic_text::line::begin;
+use traffic_text::line::flag;
+use traffic_text::line::named;
+use traffic_text::line::named_word;
+use traffic_text::line::number;
+use traffic_text::line::print;
+use traffic_text::line::put_all;
+use traffic_text::line::put_area;
+use traffic_text::line::put_nth;
+use traffic_text::line::put_part;
+use traffic_text::line::token;
+use traffic_text::line::word;
+use traffic_text::sum::sum_of;
+
+// What a line shows besides its event's answer.
+pub struct Shown {
+    pub event: u64,
+    pub registers: Registers,
+    // The interrupt line.
+    pub line: bool,
+    // The store's checksum.
+    pub sum: u32,
+}
+
+fn response_number(r: Response) -> u32 {
+    match r {
+        Response::Nothing => 1,
+        Response::Okay => 2,
+        Response::Slverr => 3,
+        Response::Decerr => 4,
+        Response::Wait => 5,
+    }
+}
+
+fn put_response(line: &mut [u8; ROOM], at: usize, r: Response) -> usize {
+    put_nth(
+        line,
+        at,
+        b" none OKAY SLVERR DECERR wait",
+        response_number(r),
+    )
+}
+
+fn put_answer(line: &mut [u8; ROOM], at: usize, a: Answer) -> usize {
+    let r = a.response;
+    let numbered = number(line, at, a.number);
+    let responded = put_response(line, numbered, r);
+    let slot = named(line, responded, b"slot", a.slot as u64);
+    let sent = named(line, slot, b"sent", a.length as u64);
+    named_word(line, sent, b"data", a.word)
+}
+
+fn put_registers(line: &mut [u8; ROOM], at: usize, r: Registers) -> usize {
+    let buses = named_word(line, at, b"regs", local_read(r, 0x018));
+    let control = word(line, buses, local_read(r, 0x134));
+    let decode = word(line, control, local_read(r, 0x138));
+    let mask = word(line, decode, local_read(r, 0x13C));
+    word(line, mask, local_read(r, 0x144))
+}
+
+// The registers, the interrupt line and the store; then the line is printed.
+fn say(line: &mut [u8; ROOM], at: usize, s: Shown) {
+    let registers = s.registers;
+    let shown = put_registers(line, at, registers);
+    let name = token(line, shown, b"line");
+    let high = flag(line, name, s.line);
+    let end = named_word(line, high, b"store", s.sum);
+    print(line, end);
+}
+
+// The first line, after the header.
+pub fn say_new(s: Shown, refusal: u32) {
+    let mut line = [0u8; ROOM];
+    let name = put_all(&mut line, 0, b"new");
+    let numbered = number(&mut line, name, refusal);
+    say(&mut line, numbered, s);
+}
+
+// A read, a write or a configuration access, after it was lent the area.
+pub fn say_with_area(s: Shown, kind: u32, a: Answer, area: &[u8]) {
+    let mut line = [0u8; ROOM];
+    let name = begin(&mut line, s.event, kind);
+    let answered = put_answer(&mut line, name, a);
+    let summed = put_area(&mut line, answered, area);
+    say(&mut line, summed, s);
+}
+
+// A completion, ticks, the link or a release.
+pub fn say_with_store(s: Shown, kind: u32, a: Answer) {
+    let mut line = [0u8; ROOM];
+    let name = begin(&mut line, s.event, kind);
+    let answered = put_answer(&mut line, name, a);
+    say(&mut line, answered, s);
+}
+
+// A look, with its number and the part of the store that it gave.
+pub fn say_look(s: Shown, refusal: u32, part: &[u8]) {
+    let mut line = [0u8; ROOM];
+    let name = begin(&mut line, s.event, record::LOOK);
+    let numbered = number(&mut line, name, refusal);
+    let counted = named(&mut line, numbered, b"part", part.len() as u64);
+    let summed = word(&mut line, counted, sum_of(part));
+    let shown = put_part(&mut line, summed, part);
+    say(&mut line, shown, s);
+}
