@@ -18,7 +18,7 @@ use Rattle.machine.specs.Completions.{faulted, failed, finished, pieceClosed}
 use Rattle.machine.specs.Ticks.{timedOut, expire, expireTo, ticked, linked}
 use Rattle.machine.specs.Config.{configNumber, payloadOf}
 use Rattle.bridge_laws.specs.Examples.{W1, W10, Played, Starred}
-use Rattle.bridge_laws.proofs.CompletionExamples.{w3-completed}
+use Rattle.bridge_laws.proofs.CompletionExamples.{w3-completed, w3-refused}
 
 w1 : W1
 unfolding bit isSet setBit clearBit freeFrom validTarget validRequest formatType targetBytes requestBytes holds firstFrom windowOf translated endFrom burstRight burstNumber lengthOf pieceCount pieceFirst pieceEnd pieceAt wordAddress wordCount firstEnables lastEnables fresh raised raisedCore opened freeSlotFrom accepted refused refusal freshCore freshBridge pcieOf memoryRequest packet readRefusal claimed readTo readSent readStep linked
@@ -58,4 +58,5 @@ starred =
       w10 = w10;
       played = played;
       answered = w3-completed;
+      refused = w3-refused;
     }

@@ -1,23 +1,22 @@
--- W3's read and its completion, run on the definitions: start ABE, 6 bytes, count 6, lower 3E.
+-- W3's read and its completion, run on the definitions: start 12340ABE, 6 bytes, count 6, lower 3E.
 use Prim.Native.Nat.{ℕ, _^_}
 use mathlib.Core.Path.{_≡_}
 use mathlib.Core.List.{List, [], _∷_}
 use lib.ListN.{getD, take, replicate}
-use Rattle.address.specs.Settings.{exampleSettings}
+use Rattle.burst.specs.Examples.{incr}
 use Rattle.machine.specs.Bridge.{Bridge}
-use Rattle.parts.specs.Pendings.{memoryPending}
-use Rattle.machine.specs.State.{slotSize, slotOpen, setState, setSize, setPieces, setFault, missingOf, opened, freshBridge}
-use Rattle.machine.specs.Completions.{Held, held, completed, completeRefusal}
+use Rattle.machine.specs.State.{missingOf}
+use Rattle.machine.specs.Memory.{areaSize, readStep}
+use Rattle.machine.specs.Completions.{storeSize, Held, held, completed, completeRefusal}
+use Rattle.bridge_laws.specs.ExampleBridges.{up}
 
--- slot 0 waits for 6 bytes from ABE on, all of tag 0
+-- the bridge that W3's read leaves, its link up
 abbrev pub waiting : Bridge
-waiting =
-    opened (memoryPending 0 0 6 0x56710ABE)
-    (setState 0 slotOpen (setSize 0 6 (setPieces 0 1 (setFault 0 slotSize (freshBridge exampleSettings)))))
+waiting = readStep up (incr 0x12340ABE 2 2) areaSize .bridge
 
--- a store of 32,768 bytes, all 9
+-- with a store of 32,768 bytes, all 9
 abbrev pub waitingStore : Held
-waitingStore = held waiting (replicate 32768 9)
+waitingStore = held waiting (replicate storeSize 9)
 
 -- with data, 2 words; status, count, requester 0, tag 0, lower address; and 8 bytes
 abbrev pub answer : ℕ → ℕ → ℕ → List ℕ
@@ -26,7 +25,7 @@ answer poison count lower =
 
 -- the number of a completion that comes first
 abbrev pub number : List ℕ → ℕ
-number s = completeRefusal waiting 32768 s
+number s = completeRefusal waiting storeSize s
 
 -- the read as it comes: its six bytes are in the slot, it is finished OKAY, its tag is free, and the same again is not expected
 pub record W3Completed : Type 0 where
@@ -36,7 +35,7 @@ pub record W3Completed : Type 0 where
   pub okay : getD (completed waitingStore (answer 0 6 0x3E) .bridge .cause) 0 0 ≡ 0
   pub closed : missingOf (completed waitingStore (answer 0 6 0x3E) .bridge) 0 ≡ 0
   pub free : completed waitingStore (answer 0 6 0x3E) .bridge .core .free ≡ 0xFFFFFFFF
-  pub again : completeRefusal (completed waitingStore (answer 0 6 0x3E) .bridge) 32768 (answer 0 6 0x3E) ≡ 13
+  pub again : completeRefusal (completed waitingStore (answer 0 6 0x3E) .bridge) storeSize (answer 0 6 0x3E) ≡ 13
 
 -- what is not expected: another count, another lower address; and what is malformed: a byte short, bit 7 of the lower address
 pub record W3Refused : Type 0 where

@@ -3,7 +3,7 @@ use Prim.Native.Nat.{ℕ, _^_, _-_}
 use mathlib.Core.Path.{_≡_}
 use mathlib.Core.List.{List, [], _∷_, map}
 use mathlib.Core.Bool.{true, false}
-use lib.ListN.{getD, replicate}
+use lib.ListN.{getD}
 use Rattle.address.specs.declared.Settings.{Settings}
 use Rattle.address.specs.Settings.{exampleSettings, exampleWindows}
 use Rattle.burst.specs.Examples as burst
@@ -12,23 +12,16 @@ use Rattle.machine.specs.Bridge.{Bridge}
 use Rattle.machine.specs.State.{withRegisters, withTicks, coreIn, missingOf, freshBridge}
 use Rattle.machine.specs.Memory.{areaSize, readRefusal, readStep, readBytes}
 use Rattle.machine.specs.Config.{Access, accessOf, configRefusal, configBytes}
-use Rattle.bridge_laws.specs.CompletionExamples.{W3Completed}
-use Rattle.machine.specs.Completions.{storeSize, Held, held}
-use Rattle.machine.specs.Ticks.{withLink, linked, ticked}
-
--- a store of zeros
-abbrev pub emptyStore : List ℕ
-emptyStore = replicate storeSize 0
-
--- a fresh bridge whose link has come up
-abbrev pub upBridge : Settings → Bridge
-upBridge s = linked true (held (freshBridge s) emptyStore) .bridge
+use Rattle.bridge_laws.specs.ExampleBridges.{emptyStore, upBridge, down, up}
+use Rattle.bridge_laws.specs.CompletionExamples.{W3Completed, W3Refused}
+use Rattle.machine.specs.Completions.{Held, held}
+use Rattle.machine.specs.Ticks.{withLink, ticked}
 
 -- W1: 12340ABC, z 2, 1 beat, read, tag 0: 00 00 00 01 00 00 00 0F 56 71 0A BC
 pub record W1 : Type 0 where
-  pub number : readStep (upBridge exampleSettings) (burst.incr 0x12340ABC 2 1) areaSize .answer .number ≡ 0
+  pub number : readStep (up) (burst.incr 0x12340ABC 2 1) areaSize .answer .number ≡ 0
   pub bytes :
-      readBytes (upBridge exampleSettings) (burst.incr 0x12340ABC 2 1)
+      readBytes (up) (burst.incr 0x12340ABC 2 1)
       ≡ 0x00 ∷ 0x00 ∷ 0x00 ∷ 0x01 ∷ 0x00 ∷ 0x00 ∷ 0x00 ∷ 0x0F ∷ 0x56 ∷ 0x71 ∷ 0x0A ∷ 0xBC ∷ []
 
 -- the example settings with time limit 2, and the counter at its last value
@@ -64,21 +57,21 @@ readAt offset = accessOf offset false 0 0
 -- W2 to W9 as the bridge plays them: the headers it sends, and its numbers
 pub record Played : Type 0 where
   pub w2 :
-      readBytes (upBridge exampleSettings) (burst.incr 0x12340ABC 2 64)
+      readBytes (up) (burst.incr 0x12340ABC 2 64)
       ≡ 0x00 ∷ 0x00 ∷ 0x00 ∷ 0x11 ∷ 0x00 ∷ 0x00 ∷ 0x00 ∷ 0xFF ∷ 0x56 ∷ 0x71 ∷ 0x0A ∷ 0xBC
       ∷ 0x00 ∷ 0x00 ∷ 0x00 ∷ 0x20 ∷ 0x00 ∷ 0x00 ∷ 0x01 ∷ 0xFF ∷ 0x56 ∷ 0x71 ∷ 0x0B ∷ 0x00
       ∷ 0x00 ∷ 0x00 ∷ 0x00 ∷ 0x0F ∷ 0x00 ∷ 0x00 ∷ 0x02 ∷ 0xFF ∷ 0x56 ∷ 0x71 ∷ 0x0B ∷ 0x80 ∷ []
   pub w3 :
-      readBytes (upBridge exampleSettings) (burst.incr 0x12340ABE 2 2)
+      readBytes (up) (burst.incr 0x12340ABE 2 2)
       ≡ 0x00 ∷ 0x00 ∷ 0x00 ∷ 0x02 ∷ 0x00 ∷ 0x00 ∷ 0x00 ∷ 0xFC ∷ 0x56 ∷ 0x71 ∷ 0x0A ∷ 0xBC ∷ []
   pub w4 :
-      readBytes (upBridge exampleSettings) (burst.incr 0x12340ABD 0 2)
+      readBytes (up) (burst.incr 0x12340ABD 0 2)
       ≡ 0x00 ∷ 0x00 ∷ 0x00 ∷ 0x01 ∷ 0x00 ∷ 0x00 ∷ 0x00 ∷ 0x06 ∷ 0x56 ∷ 0x71 ∷ 0x0A ∷ 0xBC ∷ []
   pub w5 :
-      map (λ q. readRefusal (upBridge exampleSettings) q areaSize) (burst.incr 0x12340FFE 2 1 ∷ burst.incr 0x12340FFC 2 2 ∷ [])
+      map (λ q. readRefusal (up) q areaSize) (burst.incr 0x12340FFE 2 1 ∷ burst.incr 0x12340FFC 2 2 ∷ [])
       ≡ 0 ∷ 3 ∷ []
   pub w6 :
-      map (λ q. readRefusal (upBridge exampleSettings) q areaSize) (burst.incr 0x1234FFFC 2 1 ∷ burst.incr 0x12350000 2 1 ∷ [])
+      map (λ q. readRefusal (up) q areaSize) (burst.incr 0x1234FFFC 2 1 ∷ burst.incr 0x12350000 2 1 ∷ [])
       ≡ 0 ∷ 2 ∷ []
   pub w7 :
       configBytes (busBridge exampleSettings 0 1 1) (readAt 0x00100000)
@@ -87,7 +80,7 @@ pub record Played : Type 0 where
       map (λ o. configRefusal (busBridge narrowSettings 0 1 1) (readAt o) areaSize) (0x001FFFFC ∷ 0x00200000 ∷ [])
       ≡ 11 ∷ 9 ∷ []
   pub w9 :
-      map (λ o. configRefusal (freshBridge exampleSettings) (readAt o) areaSize) (0x00000000 ∷ 0x00100000 ∷ [])
+      map (λ o. configRefusal (down) (readAt o) areaSize) (0x00000000 ∷ 0x00100000 ∷ [])
       ≡ 0 ∷ 10 ∷ []
   pub crossed : configRefusal (busBridge exampleSettings 0 3 2) (readAt 0x00300000) areaSize ≡ 10
 
@@ -104,4 +97,6 @@ pub record Starred : Type 0 where
   pub w9 : ecam.W9
   pub w10 : W10
   pub played : Played
+  -- W3's 'count 6, lower 3E', on the bridge that its read leaves: the completion that is taken, and those that are not
   pub answered : W3Completed
+  pub refused : W3Refused

@@ -5,17 +5,9 @@ use mathlib.Core.Bool.{true}
 use Prim.Native.Nat.{_-_, _^_}
 use Rattle.address.specs.Settings.{exampleSettings}
 use Rattle.burst.specs.Examples.{incr}
-use Rattle.machine.specs.Bridge.{Bridge}
-use Rattle.machine.specs.State.{withFree, coreIn, freshBridge}
-use Rattle.machine.specs.Ticks.{linkIn}
+use Rattle.machine.specs.State.{withFree, coreIn}
 use Rattle.machine.specs.Memory.{readRefusal, writeRefusal, writeBytes}
-
--- a fresh bridge with the example settings, and the same with its link up
-abbrev pub down : Bridge
-down = freshBridge exampleSettings
-
-abbrev pub up : Bridge
-up = coreIn (linkIn true (down .core)) down
+use Rattle.bridge_laws.specs.ExampleBridges.{down, up}
 
 -- the write of the two bytes of W4, AA and BB: one word, first enables 6
 abbrev pub WriteTwo : Type 0
