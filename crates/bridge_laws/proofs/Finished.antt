@@ -1,21 +1,21 @@
--- A slot that no open tag names stays as it is under a completion.
+-- A slot to which no open tag's answer goes stays as it is under a completion.
 use Prim.Native.Nat.{ℕ, _+_, _*_, _≤_, _<_}
-use mathlib.Core.Path.{_≡_, refl, sym, ap}
+use mathlib.Core.Path.{_≡_, refl, sym, ap, _∙_}
 use mathlib.Core.Bool.{Bool, true, false, cond}
 use mathlib.Core.Logic.{inl, inr, _≢_}
 use mathlib.Core.List.{List}
 use native.Mathlib.Omega.{arith}
 use lib.ListN.{length, getD}
 use lib.Dec.{ltb, eqb}
-use borrow.Author.Tests.{ltb-true, ltb-false, eqb-true, eqb-false}
+use borrow.Author.Tests.{ltb-true, lt-ltb, ltb-false, eqb-true, eqb-false}
 use Rattle.tlp.specs.declared.completion.Completion.{Completion}
 use Rattle.tlp.specs.declared.completion.CompletionRead.{CompletionRead}
 use Rattle.tlp.specs.declared.completion.CompletionRead.the-variants.{Header, Malformed}
 use Rattle.machine.specs.Bridge.{Bridge}
-use Rattle.machine.specs.State.{raise, missingOf, ownerOf, placeOf, isOpen}
+use Rattle.machine.specs.State.{raisedCore, raise, ownerOf}
 use Rattle.machine.specs.Completions.{storeSize, Held, held, verdictOf, completionOf, isUnexpected, readRefused, completeRefusal, completed}
-use Rattle.bridge_laws.specs.CompletionLaws.{Outside, Kept, Accepted, AcceptedIsOpen, SlotSame, FinishedStays}
-use Rattle.bridge_laws.proofs.Keeping.{kept-same, kept-either, kept-bridge, raise-only, verdict-open, own-slot-only, refused-keeps}
+use Rattle.bridge_laws.specs.CompletionLaws.{Outside, Kept, Accepted, AcceptedIsOpen, SlotSame, slotOf, Unawaited, AnswerSame, FinishedStays}
+use Rattle.bridge_laws.proofs.Keeping.{verdict-open, own-slot-only, refused-keeps}
 
 -- ---- what acceptance tells
 
@@ -53,19 +53,73 @@ kept-slot j k t h x n p =
       bytes = λ i l. p .store .bytes (4096 * j + i) (apart j k i n l (ltb j k) refl);
     }
 
-finished-by : (h : Held) (s : List ℕ) (j : ℕ) → ((t : ℕ) → isOpen (missingOf (h .bridge) t) (placeOf (h .bridge) t) ≡ true → ownerOf (h .bridge) t ≢ j) → (z : Bool) → eqb (completeRefusal (h .bridge) (length (h .store)) s) 0 ≡ z → SlotSame j h (completed h s)
+pub slot-then : (j : ℕ) (h x y : Held) → SlotSame j h x → SlotSame j x y → SlotSame j h y
+slot-then j h x y p q =
+    record {
+      state = q .state ∙ p .state;
+      size = q .size ∙ p .size;
+      pieces = q .pieces ∙ p .pieces;
+      fault = q .fault ∙ p .fault;
+      cause = q .cause ∙ p .cause;
+      bytes = λ i l. q .bytes i l ∙ p .bytes i l;
+    }
+
+-- whatever else becomes of the bridge
+pub slot-bridge : (j : ℕ) (h : Held) (b : Bridge) → b .state ≡ h .bridge .state → b .size ≡ h .bridge .size → b .pieces ≡ h .bridge .pieces → b .fault ≡ h .bridge .fault → b .cause ≡ h .bridge .cause → SlotSame j h (held b (h .store))
+slot-bridge j h b st si p f c =
+    record {
+      state = ap (λ (l : List ℕ). getD l j 0) st;
+      size = ap (λ (l : List ℕ). getD l j 0) si;
+      pieces = ap (λ (l : List ℕ). getD l j 0) p;
+      fault = ap (λ (l : List ℕ). getD l j 0) f;
+      cause = ap (λ (l : List ℕ). getD l j 0) c;
+      bytes = λ i l. refl;
+    }
+
+-- ---- any of the nine
+
+pub answer-same : (j : ℕ) (h : Held) → AnswerSame j h h
+answer-same j h = record { slot = λ l. slot-bridge j h (h .bridge) refl refl refl refl refl; config = λ e. refl }
+
+pub answer-then : (j : ℕ) (h x y : Held) → AnswerSame j h x → AnswerSame j x y → AnswerSame j h y
+answer-then j h x y p q =
+    record { slot = λ l. slot-then j h x y (p .slot l) (q .slot l); config = λ e. q .config e ∙ p .config e }
+
+-- the answer of a read slot's tag goes to no other slot
+pub away : (b : Bridge) (t j : ℕ) → j < 8 → slotOf b t ≢ j → j ≢ ownerOf b t
+away b t j l n e = n (rw (lt-ltb (ownerOf b t) 8 (omega arith)) (sym e))
+
+-- and a tag whose answer does not go to the configuration slot has a read slot
+pub near : (b : Bridge) (t : ℕ) → slotOf b t ≢ 8 → (z : Bool) → ltb (ownerOf b t) 8 ≡ z → ownerOf b t < 8
+near b t n true z = ltb-true _ _ z
+near b t n false z = absurd (n (rw z))
+
+-- what touches one tag and its slot leaves every other slot as it was
+pub kept-answer : (j t : ℕ) (h x : Held) → slotOf (h .bridge) t ≢ j → Kept (ownerOf (h .bridge) t) t h x → AnswerSame j h x
+kept-answer j t h x n p =
+    record {
+      slot = λ l. kept-slot j (ownerOf (h .bridge) t) t h x (away (h .bridge) t j l n) p;
+      config = λ e. p .here .config (near (h .bridge) t (λ f. n (f ∙ sym e)) (ltb (ownerOf (h .bridge) t) 8) refl);
+    }
+
+finished-by : (h : Held) (s : List ℕ) (j : ℕ) → Unawaited j (h .bridge) → (z : Bool) → eqb (completeRefusal (h .bridge) (length (h .store)) s) 0 ≡ z → AnswerSame j h (completed h s)
+unfolding raisedCore
 finished-by h s j f true z =
     let a = accepted-is-open (h .bridge) (length (h .store)) s (eqb-true _ _ z) in
     let c = a .header in
-    kept-slot j (ownerOf (h .bridge) (c .tag)) (c .tag) h (completed h s) (λ e. f (c .tag) (a .opened) (sym e)) (own-slot-only h s c (a .reads))
+    kept-answer j (c .tag) h (completed h s) (f (c .tag) (a .opened)) (own-slot-only h s c (a .reads))
 finished-by h s j f false z =
     let e = refused-keeps h s (eqb-false _ _ z) in
     let x = held (raise 21 (h .bridge)) (h .store) in
     let t = eqb (completeRefusal (h .bridge) (length (h .store)) s) 13 in
-    let n : j ≢ j + 1 = λ p. omega arith in
-    rw e
-    (kept-slot j (j + 1) 0 h (cond t x h) n
-    (kept-either (j + 1) 0 t h x h (kept-bridge (j + 1) 0 h (raise 21 (h .bridge)) (raise-only (j + 1) 0 (h .bridge) 21)) (kept-same (j + 1) 0 h)))
+    rw e (either t)
+  where
+    raised : AnswerSame j h (held (raise 21 (h .bridge)) (h .store))
+    raised = record { slot = λ l. slot-bridge j h (raise 21 (h .bridge)) refl refl refl refl refl; config = λ e. refl }
+
+    either : (t : Bool) → AnswerSame j h (cond t (held (raise 21 (h .bridge)) (h .store)) h)
+    either true = raised
+    either false = answer-same j h
 
 pub finished-stays : FinishedStays
 finished-stays h s j f = finished-by h s j f (eqb (completeRefusal (h .bridge) (length (h .store)) s) 0) refl

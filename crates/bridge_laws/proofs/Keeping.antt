@@ -91,11 +91,12 @@ lies c m p payload (Failed cause) f o l = tt
 
 module _ (k t : ℕ) where
   -- the core alone
-  pub only-core : (b : Bridge) (c : Core) → c .ticks ≡ b .core .ticks → OnlyHere k t b (coreIn c b)
-  only-core b c x =
+  pub only-core : (b : Bridge) (c : Core) → c .ticks ≡ b .core .ticks → (k < 8 → c .config ≡ b .core .config) → OnlyHere k t b (coreIn c b)
+  only-core b c x y =
       record {
         settings = refl;
         ticks = x;
+        config = y;
         sent = refl;
         owner = refl;
         kind = refl;
@@ -115,6 +116,7 @@ module _ (k t : ℕ) where
       record {
         settings = refl;
         ticks = refl;
+        config = λ l. refl;
         sent = refl;
         owner = refl;
         kind = refl;
@@ -134,6 +136,7 @@ module _ (k t : ℕ) where
       record {
         settings = refl;
         ticks = refl;
+        config = λ l. refl;
         sent = refl;
         owner = refl;
         kind = refl;
@@ -148,13 +151,14 @@ module _ (k t : ℕ) where
       }
 
   same : (b : Bridge) → OnlyHere k t b b
-  same b = only-core b (b .core) refl
+  same b = only-core b (b .core) refl (λ l. refl)
 
   pub then : (b x y : Bridge) → OnlyHere k t b x → OnlyHere k t x y → OnlyHere k t b y
   then b x y p q =
       record {
         settings = q .settings ∙ p .settings;
         ticks = q .ticks ∙ p .ticks;
+        config = λ l. q .config l ∙ p .config l;
         sent = q .sent ∙ p .sent;
         owner = q .owner ∙ p .owner;
         kind = q .kind ∙ p .kind;
@@ -182,7 +186,7 @@ module _ (k t : ℕ) where
 
   pub raise-only : (b : Bridge) (i : ℕ) → OnlyHere k t b (raise i b)
   unfolding raisedCore
-  raise-only b i = only-core b (raisedCore i (b .core)) refl
+  raise-only b i = only-core b (raisedCore i (b .core)) refl (λ l. refl)
 
   pub failed-only : (b : Bridge) (place : ℕ) (why : Cause) → OnlyHere k t b (failed k place why b)
   unfolding failed
@@ -203,7 +207,7 @@ module _ (k t : ℕ) where
 
   freed-only : (b : Bridge) → OnlyHere k t b (freed t b)
   unfolding freed
-  freed-only b = only-core b (freed t b .core) refl
+  freed-only b = only-core b (freed t b .core) refl (λ l. refl)
 
   -- both together
   pub kept-same : (h : Held) → Kept k t h h
@@ -284,11 +288,11 @@ module _ (k t : ℕ) where
         let x = held b (h .store) in
         kept-then h x (closed t k x) (kept-bridge h b (failed-only (h .bridge) (placeOf (h .bridge) t) cause)) (closed-kept x l)
 
-  config-only : (b : Bridge) (payload : List ℕ) (v : Verdict) → OnlyHere k t b (configCompleted b t payload v)
+  config-only : (b : Bridge) (payload : List ℕ) (v : Verdict) → 8 ≤ k → OnlyHere k t b (configCompleted b t payload v)
   unfolding configCompleted
-  config-only b payload v =
+  config-only b payload v far =
       let x = coreIn (withConfig (configAnswer (b .core .config) payload v) (b .core)) b in
-      then b x (freed t (shut t x)) (only-core b (withConfig (configAnswer (b .core .config) payload v) (b .core)) refl)
+      then b x (freed t (shut t x)) (only-core b (withConfig (configAnswer (b .core .config) payload v) (b .core)) refl (λ l. absurd (omega arith)))
       (then x (shut t x) (freed t (shut t x)) (shut-only x) (freed-only (shut t x)))
 
 -- ---- an expected completion
@@ -330,7 +334,7 @@ expected-kept h c payload v l r u true z =
     (lies c m (placeOf b (c .tag)) payload (verdictOf b c) f (open-room m (placeOf b (c .tag)) (verdict-open b c u)) l)
 expected-kept h c payload v l r u false z =
     kept-bridge (ownerOf (h .bridge) (c .tag)) (c .tag) h (configCompleted (h .bridge) (c .tag) payload (verdictOf (h .bridge) c))
-    (config-only (ownerOf (h .bridge) (c .tag)) (c .tag) (h .bridge) payload (verdictOf (h .bridge) c))
+    (config-only (ownerOf (h .bridge) (c .tag)) (c .tag) (h .bridge) payload (verdictOf (h .bridge) c) (ltb-false _ _ z))
 
 header-kept : (h : Held) (c : Completion) (payload : List ℕ) → validCompletion c ≡ true → length payload ≡ 4 * c .length → (z : Bool) → ltb (length (h .store)) storeSize ≡ z → (u : Bool) → isUnexpected (verdictOf (h .bridge) c) ≡ u → Kept (ownerOf (h .bridge) (c .tag)) (c .tag) h (cond (eqb (cond z 8 (cond u 13 0)) 0) (expected h c payload) (held (coreIn (refusalChange (cond z 8 (cond u 13 0)) (h .bridge .core)) (h .bridge)) (h .store)))
 unfolding expected refusalChange

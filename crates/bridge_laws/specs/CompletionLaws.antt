@@ -14,7 +14,7 @@ use Rattle.refusals.specs.Table.{refusedBy, completionOrder}
 use Rattle.machine.specs.Bridge.{Bridge}
 use Rattle.verdict.specs.declared.Verdict.{Verdict}
 use Rattle.verdict.specs.declared.Verdict.the-variants.{Unexpected, Good, Poisoned}
-use Rattle.machine.specs.State.{raise, missingOf, ownerOf, placeOf, isOpen, isWrite}
+use Rattle.machine.specs.State.{slotCount, configSlot, raise, missingOf, ownerOf, placeOf, isOpen, isWrite}
 use Rattle.machine.specs.Verdict.{useful, memoryVerdict, configVerdict}
 use Rattle.machine.specs.Completions.{storeSize, Held, held, memoryCompleted, configCompleted, nextAddress, verdictOf, completionOf, isUnexpected, completeRefusal, completed}
 
@@ -28,10 +28,11 @@ Elsewhere t l m = (u : ℕ) → u ≢ t → getD m u 0 ≡ getD l u 0
 abbrev pub Outside : ℕ → ℕ → Type 0
 Outside k i = (i < 4096 * k) ⊎ (4096 * k + 4096 ≤ i)
 
--- two bridges are the same but for tag t, slot k, the registers, the free tags and the configuration slot
+-- two bridges are the same but for tag t, slot k, the registers and the free tags; a k of 8 or more is the configuration slot
 pub record OnlyHere (k t : ℕ) (b x : Bridge) : Type 0 where
   pub settings : x .settings ≡ b .settings
   pub ticks : x .core .ticks ≡ b .core .ticks
+  pub config : k < slotCount → x .core .config ≡ b .core .config
   pub sent : x .sent ≡ b .sent
   pub owner : x .owner ≡ b .owner
   pub kind : x .kind ≡ b .kind
@@ -91,12 +92,22 @@ pub record SlotSame (j : ℕ) (h x : Held) : Type 0 where
   pub cause : getD (x .bridge .cause) j 0 ≡ getD (h .bridge .cause) j 0
   pub bytes : (i : ℕ) → i < 4096 → getD (x .store) (4096 * j + i) 0 ≡ getD (h .store) (4096 * j + i) 0
 
--- a slot that no open tag names, as a finished one, stays as it is under every completion
+-- the slot that the answer of a tag's request goes to
+abbrev pub slotOf : Bridge → ℕ → ℕ
+slotOf b t = cond (ltb (ownerOf b t) slotCount) (ownerOf b t) configSlot
+
+-- no open tag's answer goes to slot j, as when slot j is finished
+abbrev pub Unawaited : ℕ → Bridge → Type 0
+Unawaited j b = (t : ℕ) → isOpen (missingOf b t) (placeOf b t) ≡ true → slotOf b t ≢ j
+
+-- what slot j holds is the same, for each of the nine: a read slot's parts and bytes, or the configuration slot
+pub record AnswerSame (j : ℕ) (h x : Held) : Type 0 where
+  pub slot : j < slotCount → SlotSame j h x
+  pub config : j ≡ configSlot → x .bridge .core .config ≡ h .bridge .core .config
+
+-- 'finished answers stay until taken', under every completion
 abbrev pub FinishedStays : Type 0
-FinishedStays =
-    (h : Held) (s : List ℕ) (j : ℕ)
-    → ((t : ℕ) → isOpen (missingOf (h .bridge) t) (placeOf (h .bridge) t) ≡ true → ownerOf (h .bridge) t ≢ j)
-    → SlotSame j h (completed h s)
+FinishedStays = (h : Held) (s : List ℕ) (j : ℕ) → Unawaited j (h .bridge) → AnswerSame j h (completed h s)
 
 -- ---- when data is good
 
