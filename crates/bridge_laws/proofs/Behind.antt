@@ -75,7 +75,7 @@ requester-right s e =
 
 -- ---- the window
 
-is-at : (f : Found) → foundNumber f ≡ 0 → f ≡ found.At (indexOf f)
+pub is-at : (f : Found) → foundNumber f ≡ 0 → f ≡ found.At (indexOf f)
 is-at (found.At i) e = refl
 is-at found.Nothing e = let z : ⊥ = omega arith in absurd z
 

@@ -10,6 +10,7 @@ pub mod Kept
 pub mod Sends
 pub mod Stored
 pub mod Asked
+pub mod PieceLaws
 pub mod MemoryExamples
 -- Completions, ticks, the link.
 pub mod Keeping

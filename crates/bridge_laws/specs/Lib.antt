@@ -4,6 +4,7 @@ pub mod MemoryLaws
 pub mod ConfigLaws
 pub mod CompletionLaws
 pub mod TickLaws
+pub mod PieceLaws
 pub mod ExampleBridges
 pub mod MemoryExamples
 pub mod CompletionExamples

@@ -1,0 +1,117 @@
+-- The pieces' windows and pages, and the next address.
+use Prim.Native.Nat.{ℕ, _+_, _-_, _%_, _/_, _≤_, _<_}
+use mathlib.Core.Path.{_≡_, sym, ap, _∙_}
+use mathlib.Core.Bool.{true}
+use native.Mathlib.Omega.{arith}
+use native.Mathlib.Nat.{mod-lt}
+use lib.ListN.{getD}
+use Rattle.address.specs.declared.Settings.{Settings}
+use Rattle.address.specs.declared.Windows.{Windows}
+use Rattle.address.specs.declared.Found.the-variants as found
+use Rattle.address.specs.Windows.{axi, windowOf, holdsAt}
+use Rattle.address.specs.Settings.{windowsRight, settingsNumber}
+use Rattle.address.specs.Laws.{Limit}
+use Rattle.address.proofs.Laws as address
+use Rattle.burst.specs.declared.Burst.{Burst}
+use Rattle.burst.specs.declared.Piece.{Piece}
+use Rattle.burst.specs.Bursts.{lengthOf}
+use Rattle.burst.specs.Words.{lowerAddress}
+use Rattle.burst.proofs.Pieces.{accepted-covers, burst-in-page, burst-in-window}
+use Rattle.burst.proofs.Tiling.{piece-not-empty, piece-within}
+use Rattle.burst.proofs.Words.{limit-words}
+use Rattle.machine.specs.Bridge.{Bridge}
+use Rattle.machine.specs.State.{nextAddress, placeOf}
+use Rattle.machine.specs.Memory.{windowFor, indexOf, pcieOf, piecesOf, pieceOf, readRefusal, readBridge}
+use Rattle.machine.proofs.Refusals.{read-ok}
+use Rattle.bridge_laws.specs.MemoryLaws.{Routed, Covered, tagOf}
+use Rattle.bridge_laws.specs.CompletionLaws.{Counts}
+use Rattle.bridge_laws.specs.PieceLaws.{ByteOf, Lies, PieceLies, NextBehind, ReadNext, NextMoves}
+use Rattle.bridge_laws.proofs.Behind.{is-at, row-behind, low-bits-behind}
+use Rattle.bridge_laws.proofs.Stored.{accepted-read-opens}
+
+-- two steps of d from numbers with equal low bits leave the page together
+same-page : (f g d : ℕ) → g % 4096 ≡ f % 4096 → (f + d) / 4096 ≡ f / 4096 → (g + d) / 4096 ≡ g / 4096
+same-page f g d e z =
+    let a : f % 4096 + d < 4096 = omega arith in
+    let b : g % 4096 + d < 4096 = omega arith in
+    omega (arith, b)
+
+module _ (s : Settings) (q : Burst) (r : Routed s q) (l : ℕ) (limit : Limit l) (k : ℕ) (h : k < piecesOf l q) where
+  abbrev w : Windows
+  w = s .windows
+
+  abbrev p : Piece
+  p = pieceOf l q k
+
+  abbrev i : ℕ
+  i = indexOf (windowFor w q)
+
+  right : windowsRight w ≡ true
+  right = address.accepted-windows s (r .settings)
+
+  covered : (x : ℕ) → ByteOf p x → Covered q x
+  covered x b =
+      let v = piece-within l (q .start .0) (lengthOf q) k (limit-words l limit .0) h in
+      (omega (arith, v .starts, b .0), omega (arith, v .ends, b .1))
+
+  -- its first byte is one of the burst's
+  first : Covered q (p .first)
+  first =
+      let e = piece-not-empty l (q .start .0) (lengthOf q) k (limit-words l limit .0) (accepted-covers q (r .burst) .some) h in
+      covered (p .first) (omega arith, omega (arith, e))
+
+  inside : (x : ℕ) → ByteOf p x → (i < w .count) × (holdsAt w i (axi x) ≡ true)
+  inside x b =
+      let c = covered x b in
+      let e : windowOf (w .count) (w .base) (w .size) (axi x) ≡ found.At i = burst-in-window q (r .burst) w right x (c .0) (c .1) ∙ is-at (windowFor w q) (r .window) in
+      address.found-holds w (axi x) i e
+
+  one-page : (x : ℕ) → ByteOf p x → x / 4096 ≡ p .first / 4096
+  one-page x b =
+      let c = covered x b in
+      burst-in-page q (r .burst) x (c .0) (c .1) ∙ sym (burst-in-page q (r .burst) (p .first) (first .0) (first .1))
+
+  one-behind : (x : ℕ) → ByteOf p x → pcieOf w q x / 4096 ≡ pcieOf w q (p .first) / 4096
+  one-behind x b =
+      let m = row-behind s q r x (covered x b) in
+      let n = row-behind s q r (p .first) first in
+      let d = x - p .first in
+      let u : p .first + d ≡ x = omega (arith, b .0) in
+      let v : pcieOf w q (p .first) + d ≡ pcieOf w q x = omega (arith, m, n, first .0, b .0) in
+      sym (ap (λ (y : ℕ). y / 4096) v)
+      ∙ same-page (p .first) (pcieOf w q (p .first)) d (low-bits-behind s q r (p .first) first) (ap (λ (y : ℕ). y / 4096) u ∙ one-page x b)
+
+  lies : Lies s q p
+  lies =
+      record {
+        window = λ x b. inside x b .1;
+        no-other = λ x j b g o. address.at-most-one-holds w right (axi x) j i g (inside x b .0) o (inside x b .1);
+        page = one-page;
+        page-behind = one-behind;
+      }
+
+pub piece-lies : PieceLies
+piece-lies s q r l limit k h = lies s q r l limit k h
+
+pub read-next : ReadNext
+read-next b q room e t n k h =
+    let o = accepted-read-opens b q room t n in
+    let p = pieceOf (b .settings .reads) q k in
+    let c = limit-words (b .settings .reads) (address.accepted-reads (b .settings) e) in
+    let v = piece-within (b .settings .reads) (q .start .0) (lengthOf q) k (c .0) h in
+    let z : p .first ≡ q .start .0 + placeOf (readBridge b q) (tagOf b k) = omega (arith, o .place k h, v .starts) in
+    o .next k h ∙ ap (λ (x : ℕ). lowerAddress (pcieOf (b .settings .windows) q x)) z
+
+-- a remainder that is moved on
+moves-on : (a n : ℕ) → (a % 128 + n) % 128 ≡ (a + n) % 128
+moves-on a n = omega arith
+
+pub next-moves : NextMoves
+next-moves s q r t n b x m l c d e =
+    let f = row-behind s q r (q .start .0 + placeOf b t) c in
+    let g = row-behind s q r (q .start .0 + placeOf x t) d in
+    let z : pcieOf (s .windows) q (q .start .0 + placeOf b t) + n ≡ pcieOf (s .windows) q (q .start .0 + placeOf x t) = omega (arith, f, g, m .place) in
+    m .next l
+    ∙ ap (λ (y : ℕ). lowerAddress (y + n)) e
+    ∙ moves-on (pcieOf (s .windows) q (q .start .0 + placeOf b t)) n
+    ∙ ap lowerAddress z
