@@ -1,12 +1,13 @@
 -- Configuration accesses: accepted, refused, local and routed.
 use mathlib.Core.Path.{_≡_, refl, sym, ap, subst, _∙_}
+use mathlib.Core.Logic.{_≢_}
 use mathlib.Core.Bool.{Bool, true, false, cond, not, _&&_}
 use mathlib.Core.List.{List, [], _∷_, _++_}
 use Prim.Native.Nat.{ℕ, _+_, _<_}
 use native.Mathlib.Omega.{arith}
 use borrow.Author.Tests.{le-ltb, eq-eqb, ne-eqb, eqb-true, eqb-false}
 use lib.ListN.{length, getD, set, take, length-append}
-use lib.Seq.{take-at, getD-set-other}
+use lib.Seq.{take-at, getD-set-same}
 use lib.Dec.{ltb, eqb}
 use Rattle.refusals.specs.Table.{linkDown, fewTags, configOrder, refusedBy}
 use Rattle.tags.specs.Tags.{lowest, available}
@@ -22,12 +23,14 @@ use Rattle.ecam.specs.Request.{configTarget, configRequest, dataBytes}
 use Rattle.ecam.proofs.Requests.{config-request-valid}
 use Rattle.parts.specs.declared.Core.{Core}
 use Rattle.machine.specs.Bridge.{Bridge}
-use Rattle.machine.specs.State.{tagCount, Answered, coreIn, opened, refusalChange, refusal, answered, refused, registersOf}
+use Rattle.parts.specs.declared.Pending.{Pending}
+use Rattle.machine.specs.State.{tagCount, Answered, coreIn, tagAt, setSent, setOwner, setPlace, setNext, setKind, waiting, opened, refusalChange, refusal, answered, refused, registersOf}
 use Rattle.machine.specs.Memory.{areaSize, packet}
-use Rattle.machine.specs.Config.{Access, routeOf, goesOut, configNumber, configRefusal, localCore, routedBridge, payloadOf, configBytes, configStep, configArea}
-use Rattle.machine.specs.Take.{stateIn}
+use Rattle.machine.specs.Config.{Access, routeOf, goesOut, wordPending, configNumber, configRefusal, localCore, routedBridge, payloadOf, configBytes, configStep, configArea}
+use Rattle.bridge_laws.specs.MemoryLaws.{Tables}
 use Rattle.bridge_laws.specs.ConfigLaws.{PassedAccepted, Refused, ConfigRefused, LocalSendsNothing, LocalReadKeeps, LocalReadFinishes, LocalWriteFinishes, Opens, RoutedOpens, Routed, requestOf, Packet, RoutedPacket}
 use Rattle.machine.proofs.Configs.{passed, routed-step}
+use Rattle.bridge_laws.proofs.Rows.{missing-alone, sent-alone, owner-alone, place-alone, next-alone, kind-alone}
 
 -- ---- accepted
 
@@ -121,25 +124,55 @@ unfolding payloadOf dataBytes
 payload-size true word = refl
 payload-size false word = refl
 
-not-eight : (k : ℕ) → k < 8 → k ≡ 8 → ⊥
-not-eight k h e = omega arith
+-- ---- a tag that waits
 
-opens : (b : Bridge) (a : Access) → 0 < available tagCount (b .core .free) → Opens b (routedBridge b a)
-unfolding routedBridge opened stateIn
+-- no other tag's row and no slot's changes
+waiting-others : (t : ℕ) (r : Pending) (b : Bridge) (u : ℕ) → u ≢ t → tagAt (waiting t r b) u ≡ tagAt b u
+waiting-others t r b u n =
+    let k = setKind t (r .kind) b in
+    let x = setNext t (r .next) k in
+    let p = setPlace t (r .place) x in
+    let o = setOwner t (r .slot) p in
+    let s = setSent t (b .core .ticks) o in
+    missing-alone t (r .missing) s .tags u n
+    ∙ sent-alone t (b .core .ticks) o .tags u n
+    ∙ owner-alone t (r .slot) p .tags u n
+    ∙ place-alone t (r .place) x .tags u n
+    ∙ next-alone t (r .next) k .tags u n
+    ∙ kind-alone t (r .kind) b .tags u n
+
+-- its own row is what is kept of its request
+waiting-row : (t : ℕ) (r : Pending) (b : Bridge) → Tables b → t < 32 → tagAt (waiting t r b) t ≡ record { missing = r .missing; sent = b .core .ticks; owner = r .slot; place = r .place; next = r .next; kind = r .kind }
+waiting-row t r b s l =
+    rw (
+    getD-set-same (b .missing) t (r .missing) 0 (rw (s .missing) l),
+    getD-set-same (b .sent) t (b .core .ticks) 0 (rw (s .sent) l),
+    getD-set-same (b .owner) t (r .slot) 0 (rw (s .owner) l),
+    getD-set-same (b .place) t (r .place) 0 (rw (s .place) l),
+    getD-set-same (b .next) t (r .next) 0 (rw (s .next) l),
+    getD-set-same (b .kind) t (r .kind) 0 (rw (s .kind) l))
+
+opens : (b : Bridge) (a : Access) → 0 < available tagCount (b .core .free) → Opens a b (routedBridge b a)
+unfolding routedBridge opened
 opens b a h =
+    let t = lowest tagCount (b .core .free) in
+    let i = lowest-is tagCount (b .core .free) h .tag in
     record {
+      settings = refl;
       registers = refl;
       ticks = refl;
-      fewer = take-one-less tagCount (b .core .free) (lowest tagCount (b .core .free)) (lowest-is tagCount (b .core .free) h .tag);
-      others = λ t n. getD-set-other (b .missing) (lowest tagCount (b .core .free)) t 4 0 n;
-      slots = λ k l. rw (ne-eqb k 8 (not-eight k l));
       config = refl;
+      free = refl;
+      fewer = take-one-less tagCount (b .core .free) t i;
+      slots = λ k. refl;
+      others = λ u n. waiting-others t (wordPending (a .write)) b u n;
+      tag = λ s. waiting-row t (wordPending (a .write)) b s (i .below);
     }
 
 pub routed-opens : RoutedOpens
 routed-opens b a room e g =
     let s = routed-step b a (routeOf b a) (b .settings .bits) (b .settings .requester) refl refl refl g room (configRefusal b a room) refl e in
-    subst (Opens b) (sym (ap (λ (r : Answered). r .bridge) s))
+    subst (Opens a b) (sym (ap (λ (r : Answered). r .bridge) s))
     (opens b a (passed (b .core) (routeOf b a) room e .tag g))
 
 module _ (b : Bridge) (a : Access) (room : ℕ) (r : Routed b a room) where

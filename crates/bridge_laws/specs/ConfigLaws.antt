@@ -1,10 +1,12 @@
 -- What is proved of a fresh bridge, of configuration accesses and of taking an answer, for every bridge and all arguments.
 use mathlib.Core.Path.{_≡_}
+use mathlib.Core.Logic.{_≢_}
 use mathlib.Core.List.{List, [], _++_}
 use mathlib.Core.Bool.{true, false, cond}
 use Prim.Native.Nat.{ℕ, suc, _+_, _*_, _^_, _<_}
 use lib.ListN.{length, getD, take}
 use lib.Dec.{eqb}
+use Rattle.bits.specs.Bits.{clearBit}
 use Rattle.tags.specs.Tags.{lowest, available}
 use Rattle.tlp.specs.declared.request.Request.{Request}
 use Rattle.tlp.specs.declared.request.RequestRead.the-variants.{Header}
@@ -16,11 +18,12 @@ use Rattle.ecam.specs.declared.Route.the-variants.{Local}
 use Rattle.ecam.specs.Registers.{fresh, localRead, localWrite}
 use Rattle.parts.specs.declared.Core.{Core}
 use Rattle.machine.specs.Bridge.{Bridge}
-use Rattle.machine.specs.State.{tagCount, withRegisters, withConfig, doneConfig, coreIn, putState, missingOf, okay, refusal, answered, newBridge, registersOf, lineOf}
+use Rattle.machine.specs.State.{tagCount, configSlot, configRead, configWrite, withRegisters, withConfig, openConfig, doneConfig, coreIn, putState, tagAt, slotAt, okay, refusal, answered, newBridge, registersOf, lineOf}
 use Rattle.machine.specs.contracts.Passing.{Passed}
 use Rattle.machine.specs.Config.{Access, routeOf, goesOut, configNumber, configRefusal, routedRequest, payloadOf, configBytes, configStep, configArea}
 use Rattle.machine.specs.Completions.{sizeOf}
 use Rattle.machine.specs.Take.{stateOf, takeRefusal, looked, releaseStep}
+use Rattle.bridge_laws.specs.MemoryLaws.{Tables}
 
 -- ---- a fresh bridge
 
@@ -96,21 +99,36 @@ LocalWriteFinishes =
     (withRegisters (localWrite (registersOf b) w (a .strobes) (a .word))
     (withConfig (doneConfig true okay 0) (b .core))) b
 
--- an accepted access that goes out leaves one free tag less: no register, read slot or other tag changes
-pub record Opens (b c : Bridge) : Type 0 where
+-- an accepted access that goes out takes the lowest free tag, and its slot is open: no setting, register, tick, read slot or
+-- other tag changes
+pub record Opens (a : Access) (b c : Bridge) : Type 0 where
+  pub settings : c .settings ≡ b .settings
   pub registers : registersOf c ≡ registersOf b
   pub ticks : c .core .ticks ≡ b .core .ticks
+  pub config : c .core .config ≡ openConfig (a .write)
+  pub free : c .core .free ≡ clearBit (b .core .free) (lowest tagCount (b .core .free))
   pub fewer : available tagCount (b .core .free) ≡ suc (available tagCount (c .core .free))
-  pub others : (t : ℕ) → (t ≡ lowest tagCount (b .core .free) → ⊥) → missingOf c t ≡ missingOf b t
-  pub slots : (k : ℕ) → k < 8 → stateOf c k ≡ stateOf b k
-  pub config : stateOf c 8 ≡ 1
+  pub slots : (k : ℕ) → slotAt c k ≡ slotAt b k
+  pub others : (t : ℕ) → t ≢ lowest tagCount (b .core .free) → tagAt c t ≡ tagAt b t
+  -- the tag waits for the 4 bytes of slot 8, from now on
+  pub tag :
+      Tables b
+      → tagAt c (lowest tagCount (b .core .free))
+      ≡ record {
+        missing = 4;
+        sent = b .core .ticks;
+        owner = configSlot;
+        place = 0;
+        next = 0;
+        kind = cond (a .write) configWrite configRead;
+      }
 
 abbrev pub RoutedOpens : Type 0
 RoutedOpens =
     (b : Bridge) (a : Access) (room : ℕ)
     → configRefusal b a room ≡ 0
     → goesOut (routeOf b a) ≡ true
-    → Opens b (configStep b a room .bridge)
+    → Opens a b (configStep b a room .bridge)
 
 -- an accepted access that goes out, of a bridge whose requester ID has 16 bits, as accepted settings have it
 pub record Routed (b : Bridge) (a : Access) (room : ℕ) : Type 0 where
