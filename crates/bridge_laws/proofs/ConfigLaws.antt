@@ -145,12 +145,13 @@ waiting-others t r b u n =
 waiting-row : (t : ℕ) (r : Pending) (b : Bridge) → Tables b → t < 32 → tagAt (waiting t r b) t ≡ record { missing = r .missing; sent = b .core .ticks; owner = r .slot; place = r .place; next = r .next; kind = r .kind }
 waiting-row t r b s l =
     rw (
-    getD-set-same (b .missing) t (r .missing) 0 (rw (s .missing) l),
-    getD-set-same (b .sent) t (b .core .ticks) 0 (rw (s .sent) l),
-    getD-set-same (b .owner) t (r .slot) 0 (rw (s .owner) l),
-    getD-set-same (b .place) t (r .place) 0 (rw (s .place) l),
-    getD-set-same (b .next) t (r .next) 0 (rw (s .next) l),
-    getD-set-same (b .kind) t (r .kind) 0 (rw (s .kind) l))
+      getD-set-same (b .missing) t (r .missing) 0 (rw (s .missing) l),
+      getD-set-same (b .sent) t (b .core .ticks) 0 (rw (s .sent) l),
+      getD-set-same (b .owner) t (r .slot) 0 (rw (s .owner) l),
+      getD-set-same (b .place) t (r .place) 0 (rw (s .place) l),
+      getD-set-same (b .next) t (r .next) 0 (rw (s .next) l),
+      getD-set-same (b .kind) t (r .kind) 0 (rw (s .kind) l),
+    )
 
 opens : (b : Bridge) (a : Access) → 0 < available tagCount (b .core .free) → Opens a b (routedBridge b a)
 unfolding routedBridge opened

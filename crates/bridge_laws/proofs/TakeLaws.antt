@@ -18,11 +18,12 @@ use Rattle.bridge_laws.specs.ConfigLaws.{ReleaseNumber, TakeRefused, Par
 
 -- ---- the refusals
 
-record Passed (room found : ℕ) : Type 0 where
-  long : storeSize ≤ room
-  finished : found ≡ 2
+-- what acceptance tells
+pub record Passed (room found : ℕ) : Type 0 where
+  pub long : storeSize ≤ room
+  pub finished : found ≡ 2
 
-passed : (room found : ℕ) → takeNumber room found ≡ 0 → Passed room found
+pub passed : (room found : ℕ) → takeNumber room found ≡ 0 → Passed room found
 unfolding takeNumber
 passed room found e = by (ltb room storeSize) (eqb found 2) refl refl e
   where
@@ -30,6 +31,11 @@ passed room found e = by (ltb room storeSize) (eqb found 2) refl refl e
     by true q ep eq e = absurd (omega arith)
     by false false ep eq e = absurd (omega arith)
     by false true ep eq e = record { long = ltb-false _ _ ep; finished = eqb-true _ _ eq }
+
+-- and what is enough for it
+pub passes : (room found : ℕ) → storeSize ≤ room → found ≡ 2 → takeNumber room found ≡ 0
+unfolding takeNumber
+passes room found l e = rw (le-ltb room storeSize l, eq-eqb found 2 e)
 
 -- 8 and 14 change nothing
 kept : (room found : ℕ) (c : Core) → refusalChange (takeNumber room found) c ≡ c

@@ -44,7 +44,7 @@ config-core : (k t : ℕ) (b : Bridge) → 8 ≤ k → OnlyHere k t b (coreIn (r
 unfolding raisedCore
 config-core k t b far = only-core k t b (raisedCore 8 (withConfig (configDone (b .core .config) slverr 0) (b .core))) refl (λ l. absurd (omega arith))
 
-timed-kept : (h : Held) (t : ℕ) → storeSize ≤ length (h .store) → (z : Bool) → ltb (ownerOf (h .bridge) t) 8 ≡ z → Kept (ownerOf (h .bridge) t) t h (timedOut t h)
+pub timed-kept : (h : Held) (t : ℕ) → storeSize ≤ length (h .store) → (z : Bool) → ltb (ownerOf (h .bridge) t) 8 ≡ z → Kept (ownerOf (h .bridge) t) t h (timedOut t h)
 unfolding timedOut
 timed-kept h t l true z =
     let k = ownerOf (h .bridge) t in

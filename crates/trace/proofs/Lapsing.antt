@@ -13,13 +13,13 @@ use Rattle.common.proofs.Tests.{and-left}
 use Rattle.burst.specs.declared.Burst.{Burst}
 use Rattle.burst.specs.Bursts.{lengthOf}
 use Rattle.verdict.specs.declared.Cause.the-variants.{Timeout}
-use Rattle.machine.specs.State.{withConfig, coreIn, raisedCore, missingOf, placeOf, ownerOf, isOpen, shut, slverr}
-use Rattle.machine.specs.Completions.{storeSize, Held, held, failed, finished, pieceClosed, configDone}
+use Rattle.machine.specs.State.{missingOf, placeOf, ownerOf, isOpen, shut}
+use Rattle.machine.specs.Completions.{storeSize, Held, held, failed, finished, pieceClosed}
 use Rattle.machine.specs.Ticks.{isOld, ageOf, timedOut, expire, expireTo}
 use Rattle.bridge_laws.specs.CompletionLaws.{Kept, SlotSame}
 use Rattle.machine.proofs.Judging.{open-room}
-use Rattle.bridge_laws.proofs.Keeping.{only-core, then, failed-only, shut-only, kept-then, kept-bridge, piece-kept}
 use Rattle.bridge_laws.proofs.Finished.{kept-slot}
+use Rattle.bridge_laws.proofs.TickLaws.{timed-kept}
 use Rattle.trace.specs.Events.{Event}
 use Rattle.trace.specs.FarSide.{Wire}
 use Rattle.trace.proofs.Touch.{failed-touched}
@@ -27,20 +27,6 @@ use Rattle.trace.proofs.Comes.{open-missing}
 use Rattle.trace.proofs.Stage.{Going, clean-stays}
 use Rattle.trace.proofs.Filling.{Spoilt, shut-spoilt, piece-spoilt, failed-spoilt}
 use Rattle.trace.proofs.Passing.{other-tags}
-
--- a timeout touches its own tag and slot alone
-timed-kept : (h : Held) (t : ℕ) → storeSize ≤ length (h .store) → (z : Bool) → ltb (ownerOf (h .bridge) t) 8 ≡ z → Kept (ownerOf (h .bridge) t) t h (timedOut t h)
-unfolding timedOut raisedCore
-timed-kept h t l true z =
-    let k = ownerOf (h .bridge) t in
-    let b = failed k (placeOf (h .bridge) t) Timeout (h .bridge) in
-    let y = held (shut t b) (h .store) in
-    let p = kept-bridge k t h (shut t b) (then k t (h .bridge) b (shut t b) (failed-only k t (h .bridge) (placeOf (h .bridge) t) Timeout) (shut-only k t b)) in
-    rw z (kept-then k t h y (pieceClosed k y) p (piece-kept k t (ltb-true k 8 z) y l))
-timed-kept h t l false z =
-    let k = ownerOf (h .bridge) t in
-    let b = coreIn (raisedCore 8 (withConfig (configDone (h .bridge .core .config) slverr 0) (h .bridge .core))) (h .bridge) in
-    rw z (kept-bridge k t h (shut t b) (then k t (h .bridge) b (shut t b) (only-core k t (h .bridge) (raisedCore 8 (withConfig (configDone (h .bridge .core .config) slverr 0) (h .bridge .core))) refl) (shut-only k t b)))
 
 piece-causes : (k : ℕ) (h : Held) (z : Bool) → leb (getD (h .bridge .pieces) k 0) 1 ≡ z → pieceClosed k h .bridge .cause ≡ h .bridge .cause
 unfolding pieceClosed finished

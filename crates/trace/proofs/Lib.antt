@@ -18,6 +18,7 @@ pub mod Wired
 pub mod Sent
 pub mod Joined
 pub mod Put
+pub mod Unawaited
 pub mod Stage
 pub mod Filling
 pub mod Filled
@@ -25,6 +26,7 @@ pub mod Receiving
 pub mod Passing
 pub mod Lapsing
 pub mod Reading
+pub mod Finished
 pub mod Bytes
 pub mod Tracks
 pub mod Failing

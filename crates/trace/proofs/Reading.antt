@@ -37,7 +37,9 @@ use Rattle.trace.proofs.Touch.{Served, served}
 use Rattle.trace.proofs.Turn.{no-way}
 use Rattle.trace.proofs.Wire.{Wired}
 use Rattle.trace.proofs.Comes.{open-missing}
-use Rattle.trace.proofs.Opened.{asked-read, asked-word, unnamed}
+use Rattle.trace.proofs.Opened.{asked-read, asked-word}
+use Rattle.trace.proofs.Settling.{state-below}
+use Rattle.trace.proofs.Unawaited.{unawaited}
 use Rattle.trace.proofs.Wired.{idle-wire, local-asks, local-tags, release-tags as wired-release, step-wired}
 use Rattle.trace.proofs.Stage.{TagsStay, Going, Stage, spoilt, going, over, stage-later, stage-stays, stage-used}
 use Rattle.trace.proofs.Filling.{Spoilt}
@@ -48,16 +50,16 @@ use Rattle.trace.proofs.Lapsing.{Lasts, lapses}
 -- ---- one event
 
 -- a slot that is released is another one
-release-other : (k j : ℕ) (h : Held) → takes k h (event.release j) ≡ false → takeRefusal (h .bridge) (length (h .store)) j ≡ 0 → k ≢ j
+pub release-other : (k j : ℕ) (h : Held) → takes k h (event.release j) ≡ false → takeRefusal (h .bridge) (length (h .store)) j ≡ 0 → k ≢ j
 release-other k j h f e z = no-way (sym (rw (eq-eqb j k (sym z), eq-eqb (takeRefusal (h .bridge) (length (h .store)) j) 0 e)) ∙ f)
 
-release-slot : (k j : ℕ) (h : Held) (z : Bool) → ltb j 8 ≡ z → k ≢ j → SlotSame k h (held (slotFreed j (h .bridge)) (h .store))
+pub release-slot : (k j : ℕ) (h : Held) (z : Bool) → ltb j 8 ≡ z → k ≢ j → SlotSame k h (held (slotFreed j (h .bridge)) (h .store))
 unfolding slotFreed
 release-slot k j h true z n =
     rw z (record { state = getD-set-other (h .bridge .state) j k 0 0 n; size = refl; pieces = refl; fault = refl; cause = refl; bytes = λ i g. refl })
 release-slot k j h false z n = rw z (record { state = refl; size = refl; pieces = refl; fault = refl; cause = refl; bytes = λ i g. refl })
 
-local-slot : (k : ℕ) (h : Held) (a : Access) (o : ℕ) → SlotSame k h (held (coreIn (localCore (h .bridge .core) a o) (h .bridge)) (h .store))
+pub local-slot : (k : ℕ) (h : Held) (a : Access) (o : ℕ) → SlotSame k h (held (coreIn (localCore (h .bridge .core) a o) (h .bridge)) (h .store))
 local-slot k h a o = record { state = refl; size = refl; pieces = refl; fault = refl; cause = refl; bytes = λ i g. refl }
 
 module _ (sent : ℕ → List (List ℕ)) (l : ℕ) (pos : 0 < l) (q : Burst) (i k : ℕ) (small : k < 8) (most : lengthOf q ≤ 4096) where
@@ -103,7 +105,7 @@ module _ (sent : ℕ → List (List ℕ)) (l : ℕ) (pos : 0 < l) (q : Burst) (i
           ticking (over a d) g = absurd (omega (arith, g .state))
       by (over a d) =
           rw f (stage-stays sent l pos q i k h (ticked h) w w
-          (tick-stays h k (λ t o z. unnamed h k s small (λ c. omega arith) t (open-missing (missingOf (h .bridge) t) (placeOf (h .bridge) t) o) z))
+          (tick-stays h k (unawaited h k s (λ c. omega (arith, c, state-below (h .bridge) k small))) .slot small)
           es most (λ z. absurd (omega arith)) (over a d))
 
   link-stage : (h x : Held) (up : Bool) (w z : Wire) (es : List Event) → (getD (h .bridge .state) k 0 ≢ 1 → SlotSame k h x) → (getD (h .bridge .state) k 0 ≡ 1 → Spoilt k (x .bridge))
@@ -157,7 +159,7 @@ module _ (sent : ℕ → List (List ℕ)) (l : ℕ) (pos : 0 < l) (q : Burst) (i
       aside h x label (c .tag) s w es (λ z. omega arith) (subst (λ (y : Held). Kept (ownerOf (h .bridge) (c .tag)) (c .tag) h y) (sym eq) (own-slot-only h s c f)) v
   move-stage h e x ticks eq w es g d p u v = tick-stage h x w es refl eq g v
   move-stage h e x (drops lk) eq w es g d p u v =
-      link-stage h x false w (wireAfter w h (event.link false)) es (λ n. subst (SlotSame k h) (sym eq) (link-stays false h k n)) (drop-spoils k h small (omega (arith, g .sizes .cause))) v
+      link-stage h x false w (wireAfter w h (event.link false)) es (λ n. subst (SlotSame k h) (sym eq) (link-stays false h k (λ c. n (sym (state-below (h .bridge) k small) ∙ c)) .slot small)) (drop-spoils k h small (omega (arith, g .sizes .cause))) v
   move-stage h e x (links up o) eq w es g d p u v =
       up-stage h x up w es (record { state = refl; size = refl; pieces = refl; fault = refl; cause = refl; bytes = λ i g. refl }) refl refl refl g o v
   move-stage h e x (releases {k = j} r) eq w es g d p u v =
