@@ -1,10 +1,11 @@
 //! The traffic format: round trips, faults, and a log written out by hand.
 
-use second::generate::{damage, traffic};
+use second::generate::{damage, traffic, Generator, Random};
 use second::run::own_log;
 use second::settings::Window;
 use second::shrink::{difference, Shrinker};
-use second::traffic::{adler, Event, Making, Traffic, HEADER_BYTES, RECORD_BYTES};
+use second::traffic::{adler, Event, Machine, Making, Traffic, HEADER_BYTES, RECORD_BYTES};
+use second::traffic::{REPEATS_LIMIT, REPEAT_LIMIT};
 
 /// The example bridge with T = 2, store 32,768, first tick 4,294,967,295.
 fn header() -> Vec<u8> {
@@ -116,6 +117,11 @@ fn last_line(bytes: &[u8]) -> String {
     own_log(bytes).lines().last().unwrap_or("").to_string()
 }
 
+fn last_fault(bytes: &[u8]) -> Option<(&'static str, String, usize)> {
+    let fault = Traffic::decode(bytes).err()?;
+    Some((fault.what, fault.part, fault.at))
+}
+
 #[test]
 fn every_cut_is_told_with_its_place() {
     let bytes = example();
@@ -177,6 +183,63 @@ fn damage_is_told_with_its_place() {
     }
     let longer = [&example()[..], &[0]].concat();
     assert_eq!(last_line(&longer), "damaged end at 284");
+}
+
+/// The example's header and these ticks; each is refused, which is quick, but
+/// counts.
+fn ticks(repeats: &[u32]) -> Vec<u8> {
+    let header = Traffic::decode(&example()).expect("a right file").header;
+    let tick = |repeat: &u32| Event::Tick {
+        store: 0,
+        repeat: *repeat,
+    };
+    let events = repeats.iter().map(tick).collect();
+    Traffic { header, events }.encode()
+}
+
+#[test]
+fn the_repeats_of_a_file_have_a_bound() {
+    let mut repeats = vec![REPEAT_LIMIT; (REPEATS_LIMIT / REPEAT_LIMIT) as usize];
+    assert_eq!(repeats.iter().sum::<u32>(), REPEATS_LIMIT);
+    assert_eq!(last_line(&ticks(&repeats)), "end 512");
+    // Of the record that passes the bound not even the first tick is played.
+    repeats.push(1);
+    let log = own_log(&ticks(&repeats));
+    assert!(log.ends_with("\ndamaged event 512 at 4792\n"));
+    assert_eq!(log.lines().count(), 1 + 512 + 1);
+}
+
+#[test]
+fn the_last_repeats_may_fill_the_bound_but_not_pass_it() {
+    let most = vec![REPEAT_LIMIT; (REPEATS_LIMIT / REPEAT_LIMIT) as usize - 1];
+    let fault = |last: &[u32]| {
+        let bytes = ticks(&[&most[..], last].concat());
+        last_fault(&bytes).map(|(what, _, at)| (what, at))
+    };
+    assert_eq!(fault(&[REPEAT_LIMIT - 1, 1]), None);
+    assert_eq!(fault(&[REPEAT_LIMIT - 1, 2]), Some(("damaged", 4792)));
+    assert_eq!(fault(&[1, REPEAT_LIMIT]), Some(("damaged", 4792)));
+    assert_eq!(fault(&[1, u32::MAX]), Some(("damaged", 4792)));
+    // A record that is cut is not judged.
+    let bytes = ticks(&[&most[..], &[1, REPEAT_LIMIT]].concat());
+    assert_eq!(
+        last_fault(&bytes[..4792 + 8]),
+        Some(("cut", "event 512".to_string(), 4792))
+    );
+}
+
+#[test]
+fn generated_ticks_keep_the_bound() {
+    let header = Traffic::decode(&example()).expect("a right file").header;
+    let mut generator = Generator::new(Machine::new(&header), Random::new(0));
+    // 1,117 records leave 88,864 ticks, fewer than one record may have.
+    for _ in 0..1117 + 88_864 + 10 {
+        generator.ticks(60_000);
+    }
+    let events = generator.events;
+    assert_eq!(events.len(), 1117 + 88_864);
+    let made = Traffic { header, events };
+    assert_eq!(Traffic::decode(&made.encode()), Ok(made));
 }
 
 #[test]

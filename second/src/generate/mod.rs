@@ -19,7 +19,8 @@ pub use settings::{lawful as lawful_settings, WAYS};
 use crate::answer::Answer;
 use crate::bridge::{Access, ConfigSlot, AREA_BYTES, CONFIG_SLOT, STORE_BYTES};
 use crate::burst::Burst;
-use crate::traffic::{Event, Machine, Outcome, Traffic, AREA_LIMIT};
+use crate::traffic::{Event, Machine, Outcome, Traffic};
+use crate::traffic::{AREA_LIMIT, REPEATS_LIMIT, REPEAT_LIMIT};
 use far::{packet, FarSide, Kind};
 
 pub const DEFAULT_EVENTS: usize = 400;
@@ -59,6 +60,8 @@ pub struct Generator {
     pub events: Vec<Event>,
     /// Lend only what is long enough.
     pub full: bool,
+    /// How many ticks the file may still have.
+    ticks_left: u32,
     mood: usize,
     mood_left: u32,
 }
@@ -71,6 +74,7 @@ impl Generator {
             far: FarSide::default(),
             events: Vec::new(),
             full: false,
+            ticks_left: REPEATS_LIMIT,
             mood: 0,
             mood_left: 30,
         }
@@ -255,6 +259,18 @@ impl Generator {
 
     pub fn ticks(&mut self, repeat: u32) {
         let store = self.store();
+        self.ticks_with(store, repeat);
+    }
+
+    /// One tick at a time where few are left, so that a very long file has some
+    /// for longer; in the end none.
+    fn ticks_with(&mut self, store: u32, repeat: u32) {
+        let repeat = match self.ticks_left {
+            0 => return,
+            left if left < REPEAT_LIMIT => 1,
+            _ => repeat,
+        };
+        self.ticks_left -= repeat;
         self.push(Event::Tick { store, repeat });
     }
 

@@ -2,7 +2,6 @@
 
 use super::{bursts, configs, Generator};
 use crate::bridge::{ConfigSlot, Owner, DECODE_BITS};
-use crate::traffic::Event;
 
 impl Generator {
     pub fn scene(&mut self) {
@@ -127,10 +126,7 @@ impl Generator {
     /// The store is too short, so the counter does not step.
     fn refused_tick(&mut self) {
         let whole = self.machine.store.len() as u32;
-        self.push(Event::Tick {
-            store: whole.min(32_767),
-            repeat: 1,
-        });
+        self.ticks_with(whole.min(32_767), 1);
     }
 
     /// A later piece fails before an earlier one, each in its own way.

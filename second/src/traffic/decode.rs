@@ -28,6 +28,8 @@ pub struct Decoder<'a> {
     at: usize,
     index: u32,
     store: u32,
+    /// The repeats of the tick records so far.
+    repeats: u32,
 }
 
 impl<'a> Decoder<'a> {
@@ -37,6 +39,7 @@ impl<'a> Decoder<'a> {
             at: 0,
             index: 0,
             store: 0,
+            repeats: 0,
         }
     }
 
@@ -225,6 +228,10 @@ impl<'a> Decoder<'a> {
         let store = self.word()?;
         let repeat = self.word()?;
         judge(store <= self.store && (1..=REPEAT_LIMIT).contains(&repeat))?;
+        // Both are bounded now, so the sum does not overflow.
+        let repeats = self.repeats + repeat;
+        judge(repeats <= REPEATS_LIMIT)?;
+        self.repeats = repeats;
         Ok(Event::Tick { store, repeat })
     }
 

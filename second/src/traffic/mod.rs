@@ -22,10 +22,13 @@ pub const VERSION_ARRAYS: u32 = 1;
 pub const VERSION_LIST: u32 = 2;
 pub const HEADER_BYTES: usize = 184;
 pub const RECORD_BYTES: usize = 24;
+pub const END_BYTES: usize = 5;
 pub const AREA_LIMIT: u32 = 8192;
 pub const DATA_LIMIT: u32 = 8192;
 pub const STORE_LIMIT: u32 = 40_960;
 pub const REPEAT_LIMIT: u32 = 131_072;
+/// The repeats of all tick records of a file together.
+pub const REPEATS_LIMIT: u32 = 67_108_864;
 
 pub const KIND_READ: u8 = 1;
 pub const KIND_WRITE: u8 = 2;
