@@ -10,6 +10,7 @@ pub mod demand3;
 pub mod generate;
 pub mod header;
 pub mod run;
+pub mod say;
 pub mod settings;
 pub mod shrink;
 pub mod traffic;

@@ -1,8 +1,11 @@
 //! `compare PLAYER SEED_FROM SEED_TO [EVENTS]` plays generated seeds, valid and
 //! damaged, on this program and on another player; it fails with the first
-//! difference and keeps the file.
+//! difference and keeps the file. Exit status: 0 equal, 1 different, 2 trouble,
+//! such as a player whose log is not whole.
 use second::generate::{damage, traffic, DEFAULT_EVENTS};
 use second::run::{log_of, own_log};
+use second::say;
+use second::say::fail;
 use second::shrink::difference;
 use std::process::exit;
 
@@ -20,26 +23,24 @@ fn main() {
         lines += compare(player, seed, "", &bytes);
         lines += compare(player, seed, "-damaged", &damage(&bytes, seed));
     }
-    println!("{} seeds, {lines} lines, 0 differences", to - from + 1);
+    say!("{} seeds, {lines} lines, 0 differences", to - from + 1);
 }
 
 /// The number of lines in the log.
 fn compare(player: &str, seed: u64, kind: &str, bytes: &[u8]) -> usize {
     let own = own_log(bytes);
-    let other = log_of(player, bytes).unwrap_or_else(|error| {
-        eprintln!("{player}: {error}");
-        exit(2)
-    });
+    let other = log_of(player, bytes)
+        .unwrap_or_else(|why| fail(format_args!("{player}: seed {seed}{kind}: {why}")));
     let Some(found) = difference(&own, &other) else {
         return own.lines().count();
     };
     let file = format!("seed-{seed}{kind}.traffic");
-    println!("seed {seed}{kind} differs at line {}", found.line + 1);
-    println!("  here:  {}", found.one);
-    println!("  there: {}", found.other);
+    say!("seed {seed}{kind} differs at line {}", found.line + 1);
+    say!("  here:  {}", found.one);
+    say!("  there: {}", found.other);
     match std::fs::write(&file, bytes) {
-        Ok(()) => println!("kept as {file}"),
-        Err(error) => println!("{file}: {error}"),
+        Ok(()) => say!("kept as {file}"),
+        Err(error) => say!("{file}: {error}"),
     }
     exit(1);
 }

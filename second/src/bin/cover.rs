@@ -2,6 +2,7 @@
 //! reached; it fails where something that can be reached was not.
 use second::cover::Coverage;
 use second::generate::DEFAULT_EVENTS;
+use second::say;
 
 fn main() {
     let numbers: Vec<u64> = std::env::args()
@@ -17,10 +18,10 @@ fn main() {
     };
     let events = numbers.get(2).map_or(DEFAULT_EVENTS, |n| *n as usize);
     let (text, wrong) = Coverage::of_seeds(from, to, events).report();
-    print!("{text}");
+    say::write(text.as_bytes());
     if !wrong.is_empty() {
-        println!("\n{} wrong:", wrong.len());
-        wrong.iter().for_each(|line| println!("{line}"));
+        say!("\n{} wrong:", wrong.len());
+        wrong.iter().for_each(|line| say!("{line}"));
         std::process::exit(1);
     }
 }

@@ -1,6 +1,7 @@
 //! `demand3 SEED_FROM SEED_TO [EVENTS]` tries the claims of demand 3 and fails
 //! with a counterexample.
 use second::demand3::{alike, honest, Figures};
+use second::say;
 
 fn main() {
     let numbers: Vec<u64> = std::env::args()
@@ -27,14 +28,14 @@ fn main() {
             }
         }
     }
-    println!("{} seeds, no counterexample", to - from + 1);
+    say!("{} seeds, no counterexample", to - from + 1);
     for (name, figure) in figures.list() {
-        println!("{figure:>12}  {name}");
+        say!("{figure:>12}  {name}");
     }
     // A success must not be empty.
     let empty = figures.list().iter().any(|(_, figure)| *figure == 0);
     if to - from >= 50 && empty {
-        println!("some figure is 0");
+        say!("some figure is 0");
         std::process::exit(1);
     }
 }

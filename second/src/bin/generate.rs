@@ -1,8 +1,7 @@
 //! `generate SEED [EVENTS [damaged]]` writes a traffic file on standard output.
 use second::generate::{damage, traffic, DEFAULT_EVENTS};
-use std::io::{self, Write};
 
-fn main() -> io::Result<()> {
+fn main() {
     let arguments: Vec<String> = std::env::args().skip(1).collect();
     let seed = arguments.first().and_then(|a| a.parse().ok());
     let events = match arguments.get(1) {
@@ -17,5 +16,5 @@ fn main() -> io::Result<()> {
     if arguments.get(2).is_some_and(|a| a == "damaged") {
         bytes = damage(&bytes, seed);
     }
-    io::stdout().write_all(&bytes)
+    second::say::write(&bytes);
 }

@@ -2,6 +2,8 @@
 //! players differ and writes a smaller file that still differs to OUT
 //! (FILE.small). Exit status: 0 equal, 1 different, 2 trouble.
 use second::run::log_of;
+use second::say;
+use second::say::fail;
 use second::shrink::{difference, Difference, Shrinker};
 use second::traffic::Traffic;
 use std::process::exit;
@@ -14,10 +16,7 @@ struct Players {
 impl Players {
     fn compare(&self, bytes: &[u8]) -> Option<Difference> {
         let log = |command: &str| {
-            log_of(command, bytes).unwrap_or_else(|error| {
-                eprintln!("{command}: {error}");
-                exit(2)
-            })
+            log_of(command, bytes).unwrap_or_else(|why| fail(format_args!("{command}: {why}")))
         };
         difference(&log(&self.one), &log(&self.other))
     }
@@ -31,33 +30,30 @@ fn main() {
     };
     let small = format!("{file}.small");
     let out = arguments.get(3).unwrap_or(&small);
-    let bytes = std::fs::read(file).unwrap_or_else(|error| {
-        eprintln!("{file}: {error}");
-        exit(2)
-    });
+    let bytes = std::fs::read(file).unwrap_or_else(|error| fail(format_args!("{file}: {error}")));
     let players = Players {
         one: one.clone(),
         other: other.clone(),
     };
     let Some(found) = players.compare(&bytes) else {
-        println!("no difference");
+        say!("no difference");
         return;
     };
     show("first difference", &found);
     match Traffic::decode(&bytes) {
         Ok(traffic) => shrink(&players, traffic, &found, out),
-        Err(fault) => println!("not shrunk: {} {} at {}", fault.what, fault.part, fault.at),
+        Err(fault) => say!("not shrunk: {} {} at {}", fault.what, fault.part, fault.at),
     }
     exit(1);
 }
 
 fn show(title: &str, found: &Difference) {
     match found.event() {
-        Some(event) => println!("{title}: line {}, event {event}", found.line + 1),
-        None => println!("{title}: line 1, the new call"),
+        Some(event) => say!("{title}: line {}, event {event}", found.line + 1),
+        None => say!("{title}: line 1, the new call"),
     }
-    println!("  one:   {}", found.one);
-    println!("  other: {}", found.other);
+    say!("  one:   {}", found.one);
+    say!("  other: {}", found.other);
 }
 
 fn shrink(players: &Players, mut traffic: Traffic, found: &Difference, out: &str) {
@@ -66,16 +62,15 @@ fn shrink(players: &Players, mut traffic: Traffic, found: &Difference, out: &str
     let small = Shrinker::new(differs, 3000).shrink(&traffic);
     let bytes = small.encode();
     if let Err(error) = std::fs::write(out, &bytes) {
-        eprintln!("{out}: {error}");
-        exit(2);
+        fail(format_args!("{out}: {error}"));
     }
-    println!(
+    say!(
         "{} events, {} bytes: {out}",
         small.events.len(),
         bytes.len()
     );
     for (index, event) in small.events.iter().enumerate() {
-        println!("  {index} {event:x?}");
+        say!("  {index} {event:x?}");
     }
     if let Some(found) = players.compare(&bytes) {
         show("there", &found);

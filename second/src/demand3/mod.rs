@@ -9,6 +9,7 @@ mod lists;
 pub use alike::alike;
 pub use honest::honest;
 
+use crate::say;
 use crate::traffic::Event;
 
 /// What the trials have seen, so that an empty success shows.
@@ -83,10 +84,10 @@ pub struct Counterexample {
 
 impl Counterexample {
     pub fn print(&self, seed: u64) {
-        println!("seed {seed}: {}", self.claim);
-        println!("{}", self.setting);
+        say!("seed {seed}: {}", self.claim);
+        say!("{}", self.setting);
         for (index, event) in self.events.iter().enumerate() {
-            println!("{index} {event:x?}");
+            say!("{index} {event:x?}");
         }
     }
 }

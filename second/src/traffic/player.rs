@@ -5,6 +5,7 @@ use crate::answer::Answer;
 use crate::bridge::Bridge;
 use crate::header::{read_completion, read_request, write_completion, write_request};
 use crate::header::{Completion, Request, Written};
+use std::io::{self, Write};
 
 /// Adler-32: sums of up to 40,960 bytes fit in 64 bits, so the remainders are
 /// taken once. Whole blocks are summed by weights, which is quicker.
@@ -135,24 +136,25 @@ impl Machine {
     }
 }
 
-/// Plays a whole file; each line of its log goes to `print`.
-pub fn play(bytes: &[u8], mut print: impl FnMut(&str)) {
+/// Plays a whole file and writes its log; no event is played after a write that
+/// fails.
+pub fn play(bytes: &[u8], out: &mut impl Write) -> io::Result<()> {
     let mut decoder = Decoder::new(bytes);
     let mut machine = match decoder.header() {
         Ok(header) => Machine::new(&header),
-        Err(fault) => return print(&log::fault(&fault)),
+        Err(fault) => return writeln!(out, "{}", log::fault(&fault)),
     };
-    print(&log::first(&machine));
+    writeln!(out, "{}", log::first(&machine))?;
     let mut index = 0;
     loop {
         match decoder.event() {
             Ok(Some(event)) => {
                 let outcome = machine.play(&event);
-                print(&log::line(index, &event, &outcome, &machine));
+                writeln!(out, "{}", log::line(index, &event, &outcome, &machine))?;
                 index += 1;
             }
-            Ok(None) => return print(&format!("end {index}")),
-            Err(fault) => return print(&log::fault(&fault)),
+            Ok(None) => return writeln!(out, "end {index}"),
+            Err(fault) => return writeln!(out, "{}", log::fault(&fault)),
         }
     }
 }
