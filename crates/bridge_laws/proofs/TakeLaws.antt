@@ -9,12 +9,13 @@ use lib.ListN.{length, getD, set, take, drop, length-drop, take-append-drop}
 use lib.Seq.{getD-set-other, getD-take, getD-drop, length-take-le}
 use lib.Dec.{ltb, eqb}
 use Rattle.refusals.specs.Table.{takeOrder, refusedBy}
+use Rattle.refusals.specs.declared.Response.the-variants.{Nothing, Okay, Slverr, Decerr, Wait}
 use Rattle.machine.specs.Bridge.{Bridge}
 use Rattle.parts.specs.declared.Core.{Core}
 use Rattle.machine.specs.State.{coreIn, responseOf, refusalChange, refusal, accepted, answered, refused}
 use Rattle.machine.specs.Completions.{storeSize, sizeOf}
 use Rattle.machine.specs.Take.{stateIn, stateOf, takeNumber, takeRefusal, looked, slotFreed, releaseStep}
-use Rattle.bridge_laws.specs.ConfigLaws.{ReleaseNumber, TakeRefused, PartOf, LookIsPart, LookAtSlot, LookAtConfig, Released, ReleaseFrees, ReleaseOnce}
+use Rattle.bridge_laws.specs.ConfigLaws.{ResponseCoded, ReleaseNumber, TakeRefused, PartOf, LookIsPart, LookAtSlot, LookAtConfig, Released, ReleaseFrees, ReleaseOnce}
 
 -- ---- the refusals
 
@@ -67,6 +68,16 @@ take-refused b store k h =
           rw (ne-eqb _ _ h)
           (ap (λ (c : Core). answered (coreIn c b) (refusal (takeRefusal b (length store) k))) (kept (length store) (stateOf b k) (b .core)));
     }
+
+-- ---- the response
+
+pub response-coded : ResponseCoded
+unfolding responseOf
+response-coded Okay l = refl
+response-coded Slverr l = refl
+response-coded Decerr l = refl
+response-coded Nothing l = absurd (omega arith)
+response-coded Wait l = absurd (omega arith)
 
 -- ---- the look
 

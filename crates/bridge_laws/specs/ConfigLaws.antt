@@ -16,9 +16,11 @@ use Rattle.address.specs.Settings.{settingsNumber}
 use Rattle.ecam.specs.declared.Route.{Route}
 use Rattle.ecam.specs.declared.Route.the-variants.{Local}
 use Rattle.ecam.specs.Registers.{fresh, localRead, localWrite}
+use Rattle.refusals.specs.declared.Response.{Response}
+use Rattle.refusals.specs.Responses.{codeOf}
 use Rattle.parts.specs.declared.Core.{Core}
 use Rattle.machine.specs.Bridge.{Bridge}
-use Rattle.machine.specs.State.{tagCount, configSlot, configRead, configWrite, withRegisters, withConfig, openConfig, doneConfig, coreIn, putState, tagAt, slotAt, okay, refusal, answered, newBridge, registersOf, lineOf}
+use Rattle.machine.specs.State.{tagCount, configSlot, configRead, configWrite, withRegisters, withConfig, openConfig, doneConfig, coreIn, putState, tagAt, slotAt, okay, responseOf, refusal, answered, newBridge, registersOf, lineOf}
 use Rattle.machine.specs.contracts.Passing.{Passed}
 use Rattle.machine.specs.Config.{Access, routeOf, goesOut, configNumber, configRefusal, routedRequest, payloadOf, configBytes, configStep, configArea}
 use Rattle.machine.specs.Completions.{sizeOf}
@@ -161,6 +163,10 @@ pub record Untaken (b : Bridge) (store : List ℕ) (k : ℕ) : Type 0 where
 
 abbrev pub TakeRefused : Type 0
 TakeRefused = (b : Bridge) (store : List ℕ) (k : ℕ) → (takeRefusal b (length store) k ≡ 0 → ⊥) → Untaken b store k
+
+-- a slot keeps its response by its number, and the release gives the response of that number
+abbrev pub ResponseCoded : Type 0
+ResponseCoded = (r : Response) → codeOf r < 4 → responseOf (codeOf r) ≡ r
 
 -- the look's bytes stand in the store
 pub record PartOf (part store : List ℕ) : Type 0 where

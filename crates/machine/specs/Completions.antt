@@ -9,14 +9,14 @@ use lib.Dec.{ltb, leb, eqb}
 use Rattle.tlp.specs.declared.completion.Completion.{Completion}
 use Rattle.tlp.specs.declared.completion.CompletionRead.{CompletionRead}
 use Rattle.tlp.specs.declared.completion.CompletionRead.the-variants.{Header, Malformed}
-use Rattle.refusals.specs.Table.{tooShort, malformed, notExpected}
+use Rattle.refusals.specs.Table.{tooShort, malformed}
 use Rattle.verdict.specs.declared.Cause.{Cause}
 use Rattle.verdict.specs.declared.Cause.the-variants.{Poison}
 use Rattle.verdict.specs.declared.Verdict.{Verdict}
 use Rattle.verdict.specs.declared.Verdict.the-variants.{Unexpected, Good, Poisoned, Failed}
 use Rattle.machine.specs.State.{Bridge, Answered, slotCount, slotSize, slotFinished, withConfig, coreIn, setState, setPieces, setFault, setCause, raise, missingOf, placeOf, ownerOf, openPieces, faultOf, failureOf, isWrite, isOpen, counted, shut, freed, okay, refusalChange}
 pub use Rattle.machine.specs.State.{nextAddress, sizeOf}
-pub use Rattle.verdict.specs.Verdict.{isUnexpected}
+pub use Rattle.verdict.specs.Verdict.{isUnexpected, verdictNumber}
 use Rattle.machine.specs.Verdict.{memoryVerdict, configVerdict, causeResponse, causeBit}
 pub use Rattle.parts.specs.Answers.{plain}
 pub use Rattle.parts.specs.Access.{configDone}
@@ -98,7 +98,7 @@ verdictOf b c =
     Unexpected
 
 abbrev pub readRefused : Bridge → CompletionRead → ℕ
-readRefused b (Header c) = cond (isUnexpected (verdictOf b c)) notExpected 0
+readRefused b (Header c) = verdictNumber (verdictOf b c)
 readRefused b Malformed = malformed
 
 -- 'completion 8, 12, 13'

@@ -76,11 +76,12 @@ pub goes-on : (r : Request) (payload : List ℕ) → (length (packet r []) ≡ 0
 goes-on r payload z = goes-by r payload (validRequest r) refl z
 
 -- what a writer leaves in 16 bytes
-abbrev pub Headed : Request → ℕ → List ℕ → Type 0
-Headed r n after = (take n after ≡ packet r []) × ((n ≡ length (packet r [])) × (n ≤ 16))
+abbrev pub Headed : Request → ℕ → List ℕ → List ℕ → Type 0
+Headed r n area after =
+    (take n after ≡ packet r []) × ((n ≡ length (packet r [])) × ((n ≤ 16) × (after ≡ filled (packet r []) area)))
 
 headed-by : (r : Request) (area : List ℕ) (w : Written) (after : List ℕ) (x : Bool) → validRequest r ≡ x → length area ≡ 16
-    → w ≡ writeRequest r (length area) → after ≡ areaAfterRequest r area → Headed r (w .length) after
+    → w ≡ writeRequest r (length area) → after ≡ areaAfterRequest r area → Headed r (w .length) area after
 unfolding writeHeader areaAfter
 headed-by r area w after true e k p q =
     let h : 16 ≤ length area = omega arith in
@@ -89,15 +90,16 @@ headed-by r area w after true e k p q =
     let t : take (w .length) after ≡ requestBytes r = rw (n, a) (take-append-seam (requestBytes r) (drop (length (requestBytes r)) area)) in
     let o = header-only r e in
     let s = header-short r in
-    (t ∙ sym o, (n ∙ ap length (sym o), omega arith))
+    (t ∙ sym o, (n ∙ ap length (sym o), (omega arith, a ∙ ap (λ (s : List ℕ). filled s area) (sym o))))
 headed-by r area w after false e k p q =
     let h : 16 ≤ length area = omega arith in
     let n : w .length ≡ 0 = ap (λ (x : Written). x .length) p ∙ rw (le-ltb _ _ h, e) in
+    let a : after ≡ area = q ∙ rw (le-ltb _ _ h, e) in
     let o = packet-none r [] e in
-    (rw (n, o), (rw (n, o), omega arith))
+    (rw (n, o), (rw (n, o), (omega arith, a ∙ ap (λ (s : List ℕ). filled s area) (sym o))))
 
 pub headed : (r : Request) (area : List ℕ) (w : Written) (after : List ℕ) → length area ≡ 16
-    → w ≡ writeRequest r (length area) → after ≡ areaAfterRequest r area → Headed r (w .length) after
+    → w ≡ writeRequest r (length area) → after ≡ areaAfterRequest r area → Headed r (w .length) area after
 headed r area w after k p q = headed-by r area w after (validRequest r) refl k p q
 
 -- ---- areas

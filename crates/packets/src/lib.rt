@@ -15,7 +15,7 @@ ghost use mathlib.Core.Path.{_≡_};
 ghost use mathlib.Core.List.{[]};
 ghost use mathlib.Core.Bool.{true, not};
 ghost use Prim.Native.Nat.{_+_, _^_, _≤_, _<_};
-ghost use lib.ListN.{length, getD, take, drop};
+ghost use lib.ListN.{length, getD, take, drop, replicate};
 ghost use lib.Dec.{eqb};
 ghost use Rattle.address.specs.Windows.{axi, windowOf, foundNumber, translated};
 ghost use Rattle.burst.specs.Bursts.{lengthOf};
@@ -78,14 +78,14 @@ pub fn memory_request(write: bool, requester: u32, tag: u32, a: PcieAddress, n: 
     }
 }
 
-// A header in the first bytes of an array; none for a request outside its ranges.
+// A header in the first bytes of an array, the others zero; none for a request outside its ranges.
 pub struct Head {
     pub bytes: [u8; 16],
     pub length: usize,
 }
 
 pub fn head_of(q: Request) -> Head
-    ensures { λ r. ⌜ (take (r .length) (r .bytes) ≡ packet q []) × ((r .length ≡ length (packet q [])) × (r .length ≤ 16)) ⌝ }
+    ensures { λ r. ⌜ (take (r .length) (r .bytes) ≡ packet q []) × ((r .length ≡ length (packet q [])) × ((r .length ≤ 16) × (r .bytes ≡ filled (packet q []) (replicate 16 0)))) ⌝ }
 {
     let mut bytes = [0u8; 16];
     let w = write_request(q, &mut bytes);

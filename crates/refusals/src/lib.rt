@@ -1,6 +1,7 @@
 // 01's refusal table: the responses, and the numbers that the code names.
 ghost use mathlib.Core.Path.{_≡_};
 ghost use Rattle.refusals.specs.Table.{refusalResponse};
+ghost use Rattle.refusals.specs.Responses.{codeOf};
 
 // What a call reports to the AXI side.
 pub enum Response {
@@ -34,6 +35,19 @@ pub const UNEXPECTED: u32 = 13;
 pub const NOT_FINISHED: u32 = 14;
 
 pub const WRONG_DATA: u32 = 15;
+
+// Its number: AXI's coding where the bus has one.
+pub fn response_code(r: Response) -> u32
+    ensures { λ n. ⌜ n ≡ codeOf r ⌝ }
+{
+    match r {
+        Response::Okay => 0,
+        Response::Slverr => 2,
+        Response::Decerr => 3,
+        Response::Nothing => 4,
+        Response::Wait => 5,
+    }
+}
 
 // The response column.
 pub fn refusal_response(n: u32) -> Response

@@ -3,25 +3,17 @@ use Prim.Native.Nat.{ℕ, _+_, _-_, _*_, _%_, min}
 use mathlib.Core.Bool.{Bool, true, false, cond, not, _&&_, _||_}
 use lib.Dec.{ltb, leb, eqb}
 use Rattle.common.specs.Decode.{slaveUnsupportedRequest, slaveCompletionTimeout, slaveErrorPoison, slaveCompleterAbort}
+use Rattle.refusals.specs.Table.{notExpected}
 use Rattle.tlp.specs.declared.completion.Completion.{Completion}
 use Rattle.verdict.specs.declared.Cause.{Cause}
 use Rattle.verdict.specs.declared.Cause.the-variants.{UnsupportedRequest, RequestRetry, CompleterAbort, Poison, Timeout}
 use Rattle.verdict.specs.declared.Verdict.{Verdict}
 use Rattle.verdict.specs.declared.Verdict.the-variants.{Unexpected, Good, Poisoned, Failed}
+pub use Rattle.refusals.specs.Responses.{okay, slverr, decerr}
 
 -- a tag is open while bytes are missing, which lie in a slot's 4,096
 abbrev pub isOpen : ℕ → ℕ → Bool
 isOpen missing place = not (eqb missing 0) && leb (place + missing) 4096
-
--- AXI's coding of a response
-abbrev pub okay : ℕ
-okay = 0
-
-abbrev pub slverr : ℕ
-slverr = 2
-
-abbrev pub decerr : ℕ
-decerr = 3
 
 -- 'Status 0 success, 1 UR, 2 CRS, 4 CA, others as UR'
 abbrev pub causeOf : ℕ → Cause
@@ -81,3 +73,8 @@ isUnexpected Unexpected = true
 isUnexpected (Good n) = false
 isUnexpected (Poisoned n) = false
 isUnexpected (Failed cause) = false
+
+-- a verdict's number in 01's refusal table: 'not expected' is 13; the other cases are accepted, with n useful bytes that are
+-- stored, with n that only count down, or with the cause of a failing status
+abbrev pub verdictNumber : Verdict → ℕ
+verdictNumber v = cond (isUnexpected v) notExpected 0

@@ -73,7 +73,7 @@ copy-at-requires c κs =
     let e : c .before .before .before .before .before .before .before .head-of .result .length ≡ length (packet r []) = c .before .before .before .before .before .before .before .head-of .ensures .1 .0 ∙ ap (λ x. length (packet x [])) (c .before .before .before .before .before .before .before .before .memory-request .ensures) in
     let i : c .before .before .before .before .index .result ≡ wordCount (a .a .0) (a .n) = c .before .before .before .before .index .ensures .0 ∙ c .before .before .before .before .before .word-count .ensures in
     let l : length (c .before .before .before .before .before .before .before .head-of .result .bytes) ≡ 16 = search (needs, c .before .before .before .before .before .before .before .head-of .ok) in
-    (omega (arith, i, c .before .before .before .if2 .left, c .before .before .before .before .before .before .before .before .before .before .before .pre .1 .1, c .before .before .before .before .before .before .before .head-of .ensures .1 .1), omega (arith, l, c .before .before .before .before .before .before .before .head-of .ensures .1 .1))
+    (omega (arith, i, c .before .before .before .if2 .left, c .before .before .before .before .before .before .before .before .before .before .before .pre .1 .1, c .before .before .before .before .before .before .before .head-of .ensures .1 .1 .0), omega (arith, l, c .before .before .before .before .before .before .before .head-of .ensures .1 .1 .0))
 
 add-put-words : tie.Need-add-put-words
 add-put-words c = search needs
@@ -89,7 +89,7 @@ put-words-requires c κs =
     let e : c .before .before .before .before .before .before .before .before .before .before .before .before .head-of .result .length ≡ length (packet r []) = c .before .before .before .before .before .before .before .before .before .before .before .before .head-of .ensures .1 .0 ∙ ap (λ x. length (packet x [])) (c .before .before .before .before .before .before .before .before .before .before .before .before .before .memory-request .ensures) in
     let i : c .before .before .before .before .before .before .before .before .before .index .result ≡ wordCount (a .a .0) (a .n) = c .before .before .before .before .before .before .before .before .before .index .ensures .0 ∙ c .before .before .before .before .before .before .before .before .before .before .word-count .ensures in
     let l : length (c .before .before .before .before .before .before .before .before .before .before .before .before .head-of .result .bytes) ≡ 16 = search (needs, c .before .before .before .before .before .before .before .before .before .before .before .before .head-of .ok) in
-    let z : length (c .before .before .before .before .copy-at .last .0) ≡ length (now (a .area)) = ap length (c .before .before .before .before .copy-at .ensures) ∙ length-paste (now (a .area)) (a .at) (c .before .before .before .before .before .before .before .before .before .before .before .before .head-of .result .bytes) (c .before .before .before .before .before .before .before .before .before .before .before .before .head-of .result .length) (omega (arith, i, c .before .before .before .before .before .before .before .before .if2 .left, c .before .before .before .before .before .before .before .before .before .before .before .before .before .before .before .before .pre .1 .1)) (omega (arith, l, c .before .before .before .before .before .before .before .before .before .before .before .before .head-of .ensures .1 .1)) in
+    let z : length (c .before .before .before .before .copy-at .last .0) ≡ length (now (a .area)) = ap length (c .before .before .before .before .copy-at .ensures) ∙ length-paste (now (a .area)) (a .at) (c .before .before .before .before .before .before .before .before .before .before .before .before .head-of .result .bytes) (c .before .before .before .before .before .before .before .before .before .before .before .before .head-of .result .length) (omega (arith, i, c .before .before .before .before .before .before .before .before .if2 .left, c .before .before .before .before .before .before .before .before .before .before .before .before .before .before .before .before .pre .1 .1)) (omega (arith, l, c .before .before .before .before .before .before .before .before .before .before .before .before .head-of .ensures .1 .1 .0)) in
     let k : wordCount (a .a .0) (c .index2 .result) ≡ wordCount (a .a .0) (a .n) = ap (wordCount (a .a .0)) (c .index2 .ensures .0) in
     (omega (arith, i, k, z, c .before .before .before .before .before .before .before .before .if2 .left, c .before .before .before .before .before .before .before .before .before .before .before .before .before .before .before .before .pre .1 .1), omega (arith, c .index2 .ensures .0, c .before .before .before .before .before .before .before .before .before .before .before .before .before .before .before .before .pre .0))
 

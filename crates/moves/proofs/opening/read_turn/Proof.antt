@@ -45,7 +45,7 @@ slice-aggregate-copy-at c = search needs
 
 copy-at-requires : tie.Need-copy-at-requires
 copy-at-requires c κs = let l : length (c .before .before .before .head-of .result .bytes) ≡ 16 = search (needs, c .before .before .before .head-of .ok) in
-    (omega (arith, l, c .before .before .before .head-of .ensures .1 .1, c .before .before .before .before .before .before .before .before .before .before .pre .1 .1 .1 .1), omega (arith, l, c .before .before .before .head-of .ensures .1 .1))
+    (omega (arith, l, c .before .before .before .head-of .ensures .1 .1 .0, c .before .before .before .before .before .before .before .before .before .before .pre .1 .1 .1 .1), omega (arith, l, c .before .before .before .head-of .ensures .1 .1 .0))
 
 sub-place : tie.Need-sub-place
 sub-place c = search needs
@@ -60,7 +60,7 @@ open-in-requires : tie.Need-open-in-requires
 open-in-requires c κs = c .before .before .before .before .before .before .before .before .before .before .before .before .before .before .before .before .before .before .pre .0
 
 add-t33 : tie.Need-add-t33
-add-t33 c = omega (arith, c .before .before .before .before .before .before .before .before .before .before .before .before .head-of .ensures .1 .1, c .before .before .before .before .before .before .before .before .before .before .before .before .before .before .before .before .before .before .before .pre .1 .1 .1 .1, c .before .before .before .before .before .before .before .before .before .before .before .before .before .before .before .before .before .before .before .good)
+add-t33 c = omega (arith, c .before .before .before .before .before .before .before .before .before .before .before .before .head-of .ensures .1 .1 .0, c .before .before .before .before .before .before .before .before .before .before .before .before .before .before .before .before .before .before .before .pre .1 .1 .1 .1, c .before .before .before .before .before .before .before .before .before .before .before .before .before .before .before .before .before .before .before .good)
 
 same-length : tie.Need-same-length
 same-length c = search needs
