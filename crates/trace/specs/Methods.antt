@@ -1,4 +1,5 @@
--- Each method is `step` at its event: what its contract says of its answer, bridge, store and area is what `step` gives.
+-- Each method is `step` at its event: what its contract says of its answer, of the view of its bridge, of store and area is what
+-- `step` gives.
 use Prim.Native.Nat.{ℕ}
 use mathlib.Core.Path.{_≡_}
 use mathlib.Core.List.{List, []}
