@@ -26,6 +26,10 @@ if ! built; then
     same=0
 else
     found=$(second/target/release/compare target/bin/traffic 0 199 2>&1) || same=0
+    # Input and output that fail: the player says so, and play.sh has a status for it.
+    for trial in target/bin/traffic './play.sh --status'; do
+        said=$(second/target/release/failing $trial 2>&1) || { same=0 found="failing $trial: $said"; }
+    done
 fi
 status=0
 wait "$gate" || status=$?
