@@ -36,8 +36,8 @@ wait "$gate" || status=$?
 
 # A difference is printed with its first event, and its file is made smaller.
 if [ "$same" -eq 0 ]; then
-    echo "the comparison failed: $found"
-    for f in seed-*.traffic; do
+    echo "the player differs, or takes a failure in silence: $found"
+    for f in *.traffic; do
         second/target/release/shrink second/target/release/play target/bin/traffic "$f" || true
     done
     exit 1

@@ -87,7 +87,7 @@ fn a_log_that_is_not_whole_is_not_compared() {
     let player = format!("{GENERATE} 0 1");
     let arguments = [&player[..], "0", "0"];
     let output = run(COMPARE, &arguments, Stdio::null(), Stdio::piped());
-    told(output, &format!("{player}: seed 0"));
+    told(output, &format!("{player}: seed-0"));
     assert!(log_of(&player, &[]).is_err());
     assert!(log_of("a/player/that/is/not/there", &[]).is_err());
     assert_eq!(log_of(PLAY, &[]), Ok("cut header at 0\n".to_string()));

@@ -78,12 +78,22 @@ slot-bridge j h b st si p f c =
 
 -- ---- any of the nine
 
+-- whatever else becomes of the bridge
+pub answer-bridge : (j : ℕ) (h : Held) (b : Bridge) → b .state ≡ h .bridge .state → b .size ≡ h .bridge .size → b .pieces ≡ h .bridge .pieces → b .fault ≡ h .bridge .fault → b .cause ≡ h .bridge .cause → (j ≡ 8 → b .core .config ≡ h .bridge .core .config) → AnswerSame j h (held b (h .store))
+answer-bridge j h b st si p f c e =
+    record { slot = λ l. slot-bridge j h b st si p f c; config = e; room = refl; beyond = λ i l. refl }
+
 pub answer-same : (j : ℕ) (h : Held) → AnswerSame j h h
-answer-same j h = record { slot = λ l. slot-bridge j h (h .bridge) refl refl refl refl refl; config = λ e. refl }
+answer-same j h = answer-bridge j h (h .bridge) refl refl refl refl refl (λ e. refl)
 
 pub answer-then : (j : ℕ) (h x y : Held) → AnswerSame j h x → AnswerSame j x y → AnswerSame j h y
 answer-then j h x y p q =
-    record { slot = λ l. slot-then j h x y (p .slot l) (q .slot l); config = λ e. q .config e ∙ p .config e }
+    record {
+      slot = λ l. slot-then j h x y (p .slot l) (q .slot l);
+      config = λ e. q .config e ∙ p .config e;
+      room = q .room ∙ p .room;
+      beyond = λ i l. q .beyond i l ∙ p .beyond i l;
+    }
 
 -- the answer of a read slot's tag goes to no other slot
 pub away : (b : Bridge) (t j : ℕ) → j < 8 → slotOf b t ≢ j → j ≢ ownerOf b t
@@ -94,12 +104,19 @@ pub near : (b : Bridge) (t : ℕ) → slotOf b t ≢ 8 → (z : Bool) → ltb (o
 near b t n true z = ltb-true _ _ z
 near b t n false z = absurd (n (rw z))
 
+-- past the slots no byte changes
+kept-beyond : (k t : ℕ) (h x : Held) → Kept k t h x → (i : ℕ) → storeSize ≤ i → (z : Bool) → ltb k 8 ≡ z → getD (x .store) i 0 ≡ getD (h .store) i 0
+kept-beyond k t h x p i l true z = let s = ltb-true k 8 z in p .store .bytes i (inr (omega arith))
+kept-beyond k t h x p i l false z = ap (λ (s : List ℕ). getD s i 0) (p .none (ltb-false k 8 z))
+
 -- what touches one tag and its slot leaves every other slot as it was
 pub kept-answer : (j t : ℕ) (h x : Held) → slotOf (h .bridge) t ≢ j → Kept (ownerOf (h .bridge) t) t h x → AnswerSame j h x
 kept-answer j t h x n p =
     record {
       slot = λ l. kept-slot j (ownerOf (h .bridge) t) t h x (away (h .bridge) t j l n) p;
       config = λ e. p .here .config (near (h .bridge) t (λ f. n (f ∙ sym e)) (ltb (ownerOf (h .bridge) t) 8) refl);
+      room = p .store .room;
+      beyond = λ i l. kept-beyond (ownerOf (h .bridge) t) t h x p i l (ltb (ownerOf (h .bridge) t) 8) refl;
     }
 
 finished-by : (h : Held) (s : List ℕ) (j : ℕ) → Unawaited j (h .bridge) → (z : Bool) → eqb (completeRefusal (h .bridge) (length (h .store)) s) 0 ≡ z → AnswerSame j h (completed h s)
@@ -115,7 +132,7 @@ finished-by h s j f false z =
     rw e (either t)
   where
     raised : AnswerSame j h (held (raise 21 (h .bridge)) (h .store))
-    raised = record { slot = λ l. slot-bridge j h (raise 21 (h .bridge)) refl refl refl refl refl; config = λ e. refl }
+    raised = answer-bridge j h (raise 21 (h .bridge)) refl refl refl refl refl (λ e. refl)
 
     either : (t : Bool) → AnswerSame j h (cond t (held (raise 21 (h .bridge)) (h .store)) h)
     either true = raised

@@ -211,7 +211,7 @@ module _ (k t : ℕ) where
 
   -- both together
   pub kept-same : (h : Held) → Kept k t h h
-  kept-same h = record { here = same (h .bridge); store = bytes-same k (h .store) }
+  kept-same h = record { here = same (h .bridge); store = bytes-same k (h .store); none = λ l. refl }
 
   pub kept-then : (h x y : Held) → Kept k t h x → Kept k t x y → Kept k t h y
   kept-then h x y p q = record {
@@ -220,6 +220,7 @@ module _ (k t : ℕ) where
       room = q .store .room ∙ p .store .room;
       bytes = λ i o. q .store .bytes i o ∙ p .store .bytes i o;
     };
+    none = λ l. q .none l ∙ p .none l;
   }
 
   pub kept-either : (z : Bool) (h x y : Held) → Kept k t h x → Kept k t h y → Kept k t h (cond z x y)
@@ -227,7 +228,7 @@ module _ (k t : ℕ) where
   kept-either false h x y p q = q
 
   pub kept-bridge : (h : Held) (b : Bridge) → OnlyHere k t (h .bridge) b → Kept k t h (held b (h .store))
-  kept-bridge h b p = record { here = p; store = bytes-same k (h .store) }
+  kept-bridge h b p = record { here = p; store = bytes-same k (h .store); none = λ l. refl }
 
   bytes-either : (z : Bool) (s x : List ℕ) → BytesOnly k s x → BytesOnly k s (cond z s x)
   bytes-either true s x p = bytes-same k s
@@ -245,6 +246,7 @@ module _ (k t : ℕ) where
       store =
           bytes-either (eqb (getD (h .bridge .cause) k 0) okay) (h .store) (zeroed k (sizeOf (h .bridge) k) (h .store))
           (zeroed-only k (sizeOf (h .bridge) k) (h .store) small (omega arith) l);
+      none = λ far. absurd (omega arith);
     }
 
     pub piece-kept : (h : Held) → storeSize ≤ length (h .store) → Kept k t h (pieceClosed k h)
@@ -278,7 +280,7 @@ module _ (k t : ℕ) where
         let o = paste-only k (placeOf (h .bridge) t) n (h .store) (usefulBytes skip n payload) (f .0) (omega (arith, f .0)) u in
         let x = held (h .bridge) d in
         let r : storeSize ≤ length d = rw (o .room) l in
-        kept-then h x (advanced t k n x) (record { here = same (h .bridge); store = o }) (advanced-kept x n r)
+        kept-then h x (advanced t k n x) (record { here = same (h .bridge); store = o; none = λ far. absurd (omega arith) }) (advanced-kept x n r)
     memory-kept h skip payload (Poisoned n) l f =
         let b = failed k (placeOf (h .bridge) t) Poison (h .bridge) in
         let x = held b (h .store) in

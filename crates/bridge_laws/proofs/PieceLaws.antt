@@ -9,7 +9,7 @@ use Rattle.address.specs.declared.Settings.{Settings}
 use Rattle.address.specs.declared.Windows.{Windows}
 use Rattle.address.specs.declared.Found.the-variants as found
 use Rattle.address.specs.Windows.{axi, windowOf, holdsAt}
-use Rattle.address.specs.Settings.{windowsRight, settingsNumber}
+use Rattle.address.specs.Settings.{windowsRight}
 use Rattle.address.specs.Laws.{Limit}
 use Rattle.address.proofs.Laws as address
 use Rattle.burst.specs.declared.Burst.{Burst}
@@ -97,8 +97,7 @@ pub read-next : ReadNext
 read-next b q room e t n k h =
     let o = accepted-read-opens b q room t n in
     let p = pieceOf (b .settings .reads) q k in
-    let c = limit-words (b .settings .reads) (address.accepted-reads (b .settings) e) in
-    let v = piece-within (b .settings .reads) (q .start .0) (lengthOf q) k (c .0) h in
+    let v = piece-within (b .settings .reads) (q .start .0) (lengthOf q) k e h in
     let z : p .first ≡ q .start .0 + placeOf (readBridge b q) (tagOf b k) = omega (arith, o .place k h, v .starts) in
     o .next k h ∙ ap (λ (x : ℕ). lowerAddress (pcieOf (b .settings .windows) q x)) z
 
@@ -107,11 +106,8 @@ moves-on : (a n : ℕ) → (a % 128 + n) % 128 ≡ (a + n) % 128
 moves-on a n = omega arith
 
 pub next-moves : NextMoves
-next-moves s q r t n b x m l c d e =
-    let f = row-behind s q r (q .start .0 + placeOf b t) c in
-    let g = row-behind s q r (q .start .0 + placeOf x t) d in
-    let z : pcieOf (s .windows) q (q .start .0 + placeOf b t) + n ≡ pcieOf (s .windows) q (q .start .0 + placeOf x t) = omega (arith, f, g, m .place) in
+next-moves s q t n b x m l r e =
     m .next l
     ∙ ap (λ (y : ℕ). lowerAddress (y + n)) e
     ∙ moves-on (pcieOf (s .windows) q (q .start .0 + placeOf b t)) n
-    ∙ ap lowerAddress z
+    ∙ sym (ap lowerAddress r)

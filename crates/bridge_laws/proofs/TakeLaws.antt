@@ -151,6 +151,7 @@ freed-slot b k h = by (ltb k 8) refl
           free = rw (e, ne-eqb _ _ (not-eight k (ltb-true _ _ e))) (set-zero (b .state) k);
           others = λ j n. rw (e, getD-set-other (b .state) k j 0 0 n);
           config = λ l. rw e;
+          emptied = λ z. absurd (not-eight k (ltb-true _ _ e) z);
           rest = rw e;
         }
     by false e =
@@ -160,6 +161,7 @@ freed-slot b k h = by (ltb k 8) refl
           free = rw (e, eq-eqb _ _ z);
           others = λ j n. let m : j ≡ 8 → ⊥ = λ s. n (s ∙ sym z) in rw (e, ne-eqb _ _ m);
           config = λ m. absurd (omega arith);
+          emptied = λ m. rw e;
           rest = rw e;
         }
 

@@ -2,7 +2,7 @@
 use Prim.Native.Nat.{ℕ, zero, suc, _+_, _*_, _≤_, _<_}
 use mathlib.Core.Path.{_≡_, refl, sym, ap, _∙_}
 use mathlib.Core.Bool.{Bool, true, false, cond, not, _&&_}
-use mathlib.Core.Logic.{_≢_}
+use mathlib.Core.Logic.{inr, _≢_}
 use mathlib.Core.List.{List, [], _∷_}
 use native.Mathlib.Decide.{ℕ-discrete}
 use native.Mathlib.Omega.{arith}
@@ -22,7 +22,7 @@ use Rattle.machine.specs.Take.{stateIn, stateOf}
 use Rattle.bridge_laws.specs.CompletionLaws.{Kept, OnlyHere, SlotSame, slotOf, Unawaited, AnswerSame}
 use Rattle.bridge_laws.specs.TickLaws.{RefusedTick, RefusedLink, TickStays, LinkStays}
 use Rattle.bridge_laws.proofs.Keeping.{only-core, then, failed-only, shut-only, kept-then, kept-bridge, piece-kept, zeroed-only}
-use Rattle.bridge_laws.proofs.Finished.{apart, slot-then, slot-bridge, answer-same, answer-then, kept-answer}
+use Rattle.bridge_laws.proofs.Finished.{apart, slot-then, slot-bridge, answer-bridge, answer-same, answer-then, kept-answer}
 
 pub refused-tick : RefusedTick
 unfolding ticked
@@ -36,7 +36,7 @@ refused-link up h l = rw (lt-ltb _ _ l)
 
 -- whatever the core but for the configuration slot, and the missing counts, become
 answer-core : (j : ℕ) (h : Held) (c : Core) (m : List ℕ) → (j ≡ 8 → c .config ≡ h .bridge .core .config) → AnswerSame j h (held (coreIn c (putMissing m (h .bridge))) (h .store))
-answer-core j h c m e = record { slot = λ l. slot-bridge j h (coreIn c (putMissing m (h .bridge))) refl refl refl refl refl; config = e }
+answer-core j h c m e = answer-bridge j h (coreIn c (putMissing m (h .bridge))) refl refl refl refl refl e
 
 -- ---- one request that times out
 
@@ -142,12 +142,13 @@ record Left (j : ℕ) (h x : Held) : Type 0 where
   slot : getD (h .bridge .state) j 0 ≢ 1 → SlotSame j h x
   config : x .bridge .core .config ≡ h .bridge .core .config
   room : length (x .store) ≡ length (h .store)
+  beyond : (i : ℕ) → storeSize ≤ i → getD (x .store) i 0 ≡ getD (h .store) i 0
 
 drop-left : (h : Held) (k j : ℕ) → k < 8 → storeSize ≤ length (h .store) → (z : Bool) → eqb (getD (h .bridge .state) k 0) 1 ≡ z → Left j h (dropSlot h k)
 unfolding dropSlot
 drop-left h k j small l true z =
     let b = zeroed-only k (sizeOf (h .bridge) k) (h .store) small (omega arith) l in
-    rw z (record { slot = λ o. same o; config = refl; room = b .room })
+    rw z (record { slot = λ o. same o; config = refl; room = b .room; beyond = λ i g. b .bytes i (inr (omega arith)) })
   where
     same : getD (h .bridge .state) j 0 ≢ 1 → SlotSame j h (held (setState k slotFinished (setPieces k 0 (setCause k slverr (h .bridge)))) (zeroed k (sizeOf (h .bridge) k) (h .store)))
     same o =
@@ -161,11 +162,13 @@ drop-left h k j small l true z =
           cause = getD-set-other (h .bridge .cause) k j slverr 0 n;
           bytes = λ i s. b .bytes (4096 * j + i) (apart j k i n s (ltb j k) refl);
         }
-drop-left h k j small l false z = rw z (record { slot = λ o. slot-bridge j h (h .bridge) refl refl refl refl refl; config = refl; room = refl })
+drop-left h k j small l false z =
+    rw z (record { slot = λ o. slot-bridge j h (h .bridge) refl refl refl refl refl; config = refl; room = refl; beyond = λ i g. refl })
 
 drops-left : (h : Held) (j n : ℕ) → n ≤ 8 → storeSize ≤ length (h .store) → Left j h (dropSlots h n)
 unfolding dropSlots
-drops-left h j zero m l = record { slot = λ o. slot-bridge j h (h .bridge) refl refl refl refl refl; config = refl; room = refl }
+drops-left h j zero m l =
+    record { slot = λ o. slot-bridge j h (h .bridge) refl refl refl refl refl; config = refl; room = refl; beyond = λ i g. refl }
 drops-left h j (suc n) m l =
     let p = drops-left h j n (omega arith) l in
     let x = dropSlots h n in
@@ -174,6 +177,7 @@ drops-left h j (suc n) m l =
       slot = λ o. slot-then j h x (dropSlot x n) (p .slot o) (q .slot (λ e. o (sym (p .slot o .state) ∙ e)));
       config = q .config ∙ p .config;
       room = q .room ∙ p .room;
+      beyond = λ i g. q .beyond i g ∙ p .beyond i g;
     }
 
 -- the state of each slot
@@ -200,6 +204,8 @@ link-by up h j o false true z w =
     (record {
       slot = λ l. slot-then j h x (dropSlots x 8) (slot-bridge j h (x .bridge) refl refl refl refl refl) (p .slot (λ e. o (state-slot (h .bridge) j l ∙ e)));
       config = λ e. p .config ∙ config-left (h .bridge .core .config) (λ f. o (state-config (h .bridge) j e ∙ f)) (eqb (h .bridge .core .config .state) 1) refl;
+      room = p .room;
+      beyond = p .beyond;
     })
 link-by up h j o false false z w =
     rw (z, w) (answer-core j h (linkIn up (h .bridge .core)) (h .bridge .missing) (λ e. refl))

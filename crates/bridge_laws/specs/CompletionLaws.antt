@@ -53,6 +53,7 @@ pub record BytesOnly (k : ℕ) (s x : List ℕ) : Type 0 where
 pub record Kept (k t : ℕ) (h x : Held) : Type 0 where
   pub here : OnlyHere k t (h .bridge) (x .bridge)
   pub store : BytesOnly k (h .store) (x .store)
+  pub none : slotCount ≤ k → x .store ≡ h .store
 
 -- a completion touches its own tag and its own slot alone: every other slot keeps its state, its response and its bytes
 abbrev pub OwnSlotOnly : Type 0
@@ -104,8 +105,12 @@ Unawaited j b = (t : ℕ) → isOpen (missingOf b t) (placeOf b t) ≡ true → 
 pub record AnswerSame (j : ℕ) (h x : Held) : Type 0 where
   pub slot : j < slotCount → SlotSame j h x
   pub config : j ≡ configSlot → x .bridge .core .config ≡ h .bridge .core .config
+  -- and a store that is longer than the slots keeps the rest of its bytes
+  pub room : length (x .store) ≡ length (h .store)
+  pub beyond : (i : ℕ) → storeSize ≤ i → getD (x .store) i 0 ≡ getD (h .store) i 0
 
--- 'finished answers stay until taken', under every completion
+-- 'finished answers stay until taken', under every completion: of a slot that no open tag's answer goes to. That a finished
+-- slot of a run is such a one is part of `FinishedStay` (trace)
 abbrev pub FinishedStays : Type 0
 FinishedStays = (h : Held) (s : List ℕ) (j : ℕ) → Unawaited j (h .bridge) → AnswerSame j h (completed h s)
 

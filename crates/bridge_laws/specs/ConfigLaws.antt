@@ -20,7 +20,7 @@ use Rattle.refusals.specs.declared.Response.{Response}
 use Rattle.refusals.specs.Responses.{codeOf}
 use Rattle.parts.specs.declared.Core.{Core}
 use Rattle.machine.specs.Bridge.{Bridge}
-use Rattle.machine.specs.State.{tagCount, configSlot, configRead, configWrite, withRegisters, withConfig, openConfig, doneConfig, coreIn, putState, tagAt, slotAt, okay, responseOf, refusal, answered, newBridge, registersOf, lineOf}
+use Rattle.machine.specs.State.{tagCount, configSlot, configRead, configWrite, withRegisters, withConfig, freeConfig, openConfig, doneConfig, coreIn, putState, tagAt, slotAt, okay, responseOf, refusal, answered, newBridge, registersOf, lineOf}
 use Rattle.machine.specs.contracts.Passing.{Passed}
 use Rattle.machine.specs.Config.{Access, routeOf, goesOut, configNumber, configRefusal, routedRequest, payloadOf, configBytes, configStep, configArea}
 use Rattle.machine.specs.Completions.{sizeOf}
@@ -164,7 +164,7 @@ pub record Untaken (b : Bridge) (store : List ℕ) (k : ℕ) : Type 0 where
 abbrev pub TakeRefused : Type 0
 TakeRefused = (b : Bridge) (store : List ℕ) (k : ℕ) → (takeRefusal b (length store) k ≡ 0 → ⊥) → Untaken b store k
 
--- a slot keeps its response by its number, and the release gives the response of that number
+-- the number by which a slot keeps a response gives that response back, as the release does
 abbrev pub ResponseCoded : Type 0
 ResponseCoded = (r : Response) → codeOf r < 4 → responseOf (codeOf r) ≡ r
 
@@ -189,11 +189,12 @@ LookAtSlot = (b : Bridge) (store : List ℕ) (k : ℕ) → takeRefusal b (length
 abbrev pub LookAtConfig : Type 0
 LookAtConfig = (b : Bridge) (store : List ℕ) → looked b store 8 ≡ []
 
--- a released slot is free, every other is as before, and nothing but the slots' states differs: no tag, no register
+-- a released slot is free, slot 8 as in a fresh bridge, every other is as before, and nothing but the slots' states differs: no tag, no register
 pub record Released (b : Bridge) (k : ℕ) (c : Bridge) : Type 0 where
   pub free : stateOf c k ≡ 0
   pub others : (j : ℕ) → (j ≡ k → ⊥) → stateOf c j ≡ stateOf b j
   pub config : k < 8 → c .core .config ≡ b .core .config
+  pub emptied : k ≡ configSlot → c .core .config ≡ freeConfig
   pub rest : c ≡ coreIn (withConfig (c .core .config) (b .core)) (putState (c .state) b)
 
 abbrev pub ReleaseFrees : Type 0

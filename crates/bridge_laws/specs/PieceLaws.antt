@@ -5,7 +5,6 @@ use mathlib.Core.Bool.{true}
 use lib.ListN.{length}
 use Rattle.address.specs.declared.Settings.{Settings}
 use Rattle.address.specs.Windows.{axi, holdsAt}
-use Rattle.address.specs.Settings.{settingsNumber}
 use Rattle.address.specs.Laws.{Limit}
 use Rattle.burst.specs.declared.Burst.{Burst}
 use Rattle.burst.specs.declared.Piece.{Piece}
@@ -13,7 +12,7 @@ use Rattle.burst.specs.Words.{lowerAddress}
 use Rattle.machine.specs.Bridge.{Bridge}
 use Rattle.machine.specs.State.{nextAddress, placeOf}
 use Rattle.machine.specs.Memory.{windowFor, indexOf, pcieOf, piecesOf, pieceOf, readRefusal, readBridge}
-use Rattle.bridge_laws.specs.MemoryLaws.{Routed, Covered, Tables, tagOf}
+use Rattle.bridge_laws.specs.MemoryLaws.{Routed, Tables, tagOf}
 use Rattle.bridge_laws.specs.CompletionLaws.{Counts}
 
 -- ---- one window, one page
@@ -44,21 +43,21 @@ PieceLies =
 abbrev pub NextBehind : Settings → Burst → Bridge → ℕ → Type 0
 NextBehind s q b t = nextAddress b t ≡ lowerAddress (pcieOf (s .windows) q (q .start .0 + placeOf b t))
 
--- after an accepted read, for each of its pieces
+-- after an accepted read, for each of its pieces; whatever the settings, also where the two sides of a window differ mod 128
 abbrev pub ReadNext : Type 0
 ReadNext =
     (b : Bridge) (q : Burst) (room : ℕ)
-    → settingsNumber (b .settings) ≡ 0
+    → 0 < b .settings .reads
     → Tables b
     → readRefusal b q room ≡ 0
     → (k : ℕ) → k < piecesOf (b .settings .reads) q → NextBehind (b .settings) q (readBridge b q) (tagOf b k)
 
--- and when n bytes more have come for it, as long as a byte is left
+-- and when n bytes more have come for it, where they stand in one row behind the window, as those of a routed burst do
+-- (`RowBehind`)
 abbrev pub NextMoves : Type 0
 NextMoves =
-    (s : Settings) (q : Burst) → Routed s q
-    → (t n : ℕ) (b x : Bridge) → Counts t n b x
+    (s : Settings) (q : Burst) (t n : ℕ) (b x : Bridge)
+    → Counts t n b x
     → t < length (b .next)
-    → Covered q (q .start .0 + placeOf b t)
-    → Covered q (q .start .0 + placeOf x t)
+    → pcieOf (s .windows) q (q .start .0 + placeOf x t) ≡ pcieOf (s .windows) q (q .start .0 + placeOf b t) + n
     → NextBehind s q b t → NextBehind s q x t

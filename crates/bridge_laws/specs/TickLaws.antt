@@ -17,10 +17,10 @@ RefusedTick = (h : Held) → length (h .store) < storeSize → ticked h ≡ h
 abbrev pub RefusedLink : Type 0
 RefusedLink = (up : Bool) (h : Held) → length (h .store) < storeSize → linked up h ≡ h
 
--- 'finished answers stay until taken', under a tick
+-- 'finished answers stay until taken', under a tick: of a slot that no open tag's answer goes to
 abbrev pub TickStays : Type 0
 TickStays = (h : Held) (j : ℕ) → Unawaited j (h .bridge) → AnswerSame j h (ticked h)
 
--- and when the link goes up or down: a slot in which no access is open stays as it is
+-- and when the link goes up or down: of a slot in which no access is open
 abbrev pub LinkStays : Type 0
 LinkStays = (up : Bool) (h : Held) (j : ℕ) → stateOf (h .bridge) j ≢ slotOpen → AnswerSame j h (linked up h)

@@ -3,21 +3,21 @@ use Prim.Native.Nat.{ℕ}
 use Rattle.refusals.specs.declared.Response.{Response}
 use Rattle.refusals.specs.declared.Response.the-variants.{Nothing, Okay, Slverr, Decerr, Wait}
 
--- AXI4's coding of RRESP and BRESP; 1 is EXOKAY, which nothing here gives
-abbrev pub okay : ℕ
-okay = 0
-
-abbrev pub slverr : ℕ
-slverr = 2
-
-abbrev pub decerr : ℕ
-decerr = 3
-
--- 'OKAY', 'SLVERR' and 'DECERR' by AXI's coding. '"none"' and '"wait"' are no responses of the bus: their numbers lie past its
--- two bits, and no slot keeps one
+-- 'OKAY', 'SLVERR' and 'DECERR' by AXI4's coding of RRESP and BRESP (1 is EXOKAY, which nothing here gives). '"none"' and
+-- '"wait"' are no responses of the bus: their numbers lie past its two bits
 abbrev pub codeOf : Response → ℕ
-codeOf Okay = okay
-codeOf Slverr = slverr
-codeOf Decerr = decerr
+codeOf Okay = 0
+codeOf Slverr = 2
+codeOf Decerr = 3
 codeOf Nothing = 4
 codeOf Wait = 5
+
+-- the numbers by which a slot keeps its response
+abbrev pub okay : ℕ
+okay = codeOf Okay
+
+abbrev pub slverr : ℕ
+slverr = codeOf Slverr
+
+abbrev pub decerr : ℕ
+decerr = codeOf Decerr

@@ -15,7 +15,7 @@ use Rattle.machine.specs.State.{sizeOf, responseOf, accepted}
 use Rattle.machine.specs.Completions.{Held}
 use Rattle.machine.specs.Take.{stateOf, takeRefusal, looked, slotFreed, releaseStep}
 use Rattle.bridge_laws.specs.CompletionLaws.{AnswerSame}
-use Rattle.bridge_laws.proofs.Finished.{answer-same, answer-then, slot-bridge, finished-stays}
+use Rattle.bridge_laws.proofs.Finished.{answer-bridge, answer-same, answer-then, finished-stays}
 use Rattle.bridge_laws.proofs.Kept.{accepted-read-keeps}
 use Rattle.bridge_laws.proofs.TickLaws.{tick-stays, link-stays}
 use Rattle.bridge_laws.proofs.TakeLaws as take
@@ -54,14 +54,14 @@ module _ (k : ℕ) (h : Held) (g : Sound h) (done : stateOf (h .bridge) k ≡ 2)
       absurd (omega (arith, state-above (h .bridge) j l, take.passed (length (h .store)) (stateOf (h .bridge) j) r .finished))
 
   pub move-answer : (e : Event) (x : Held) → Move h e x → x ≡ step h e .after → takes k h e ≡ false → AnswerSame k h x
-  move-answer e x (idle r s a lk) eq u = record { slot = λ l. slot-bridge k h (x .bridge) refl refl refl refl refl; config = λ e. refl }
-  move-answer e x (missed r f lk) eq u = record { slot = λ l. slot-bridge k h (x .bridge) refl refl refl refl refl; config = λ e. refl }
+  move-answer e x (idle r s a lk) eq u = answer-bridge k h (x .bridge) refl refl refl refl refl (λ e. refl)
+  move-answer e x (missed r f lk) eq u = answer-bridge k h (x .bridge) refl refl refl refl refl (λ e. refl)
   move-answer e x (reads {q = b} {room = room} f) eq u =
-      record { slot = λ l. read-slot k h b room g f (used l); config = λ e. accepted-read-keeps (h .bridge) b room f .config }
+      record { slot = λ l. read-slot k h b room g f (used l); config = λ e. accepted-read-keeps (h .bridge) b room f .config; room = refl; beyond = λ i l. refl }
   move-answer e x (locals {a = a} {room = room} w f r) eq u =
-      record { slot = λ l. local-slot k h a w; config = λ e. busy e (passed (h .bridge .core) (routeOf (h .bridge) a) room f .free) }
+      record { slot = λ l. local-slot k h a w; config = λ e. busy e (passed (h .bridge .core) (routeOf (h .bridge) a) room f .free); room = refl; beyond = λ i l. refl }
   move-answer e x (routes {a = a} {room = room} f o) eq u =
-      record { slot = λ l. word-slot k l h a room g f o; config = λ e. busy e (passed (h .bridge .core) (routeOf (h .bridge) a) room f .free) }
+      record { slot = λ l. word-slot k l h a room g f o; config = λ e. busy e (passed (h .bridge .core) (routeOf (h .bridge) a) room f .free); room = refl; beyond = λ i l. refl }
   move-answer e x (memories {s = s} c v f r o lt j n) eq u = subst (AnswerSame k h) (sym eq) (finished-stays h s k (unawaited h k g not-open))
   move-answer e x (configs {s = s} c v f r o lt j n) eq u = subst (AnswerSame k h) (sym eq) (finished-stays h s k (unawaited h k g not-open))
   move-answer e x ticks eq u = subst (AnswerSame k h) (sym eq) (tick-stays h k (unawaited h k g not-open))
@@ -69,7 +69,7 @@ module _ (k : ℕ) (h : Held) (g : Sound h) (done : stateOf (h .bridge) k ≡ 2)
   move-answer e x (links up o) eq u = subst (AnswerSame k h) (sym eq) (link-stays up h k not-open)
   move-answer e x (releases {k = j} r) eq u =
       let n = release-other k j h u r in
-      record { slot = λ l. release-slot k j h (ltb j 8) refl n; config = λ e. freed-config j (ltb j 8) refl n e r }
+      record { slot = λ l. release-slot k j h (ltb j 8) refl n; config = λ e. freed-config j (ltb j 8) refl n e r; room = refl; beyond = λ i l. refl }
 
 -- ---- what a slot's parts decide
 

@@ -1,8 +1,8 @@
 //! `compare PLAYER SEED_FROM SEED_TO [EVENTS]` plays generated seeds, valid and
-//! damaged, on this program and on another player; it fails with the first
-//! difference and keeps the file. Exit status: 0 equal, 1 different, 2 trouble,
+//! damaged, and the files at the edges of the format on this program and on
+//! another player; it fails with the first difference and keeps the file. Exit status: 0 equal, 1 different, 2 trouble,
 //! such as a player whose log is not whole.
-use second::generate::{damage, traffic, DEFAULT_EVENTS};
+use second::generate::{damage, edges, traffic, DEFAULT_EVENTS};
 use second::run::{log_of, own_log};
 use second::say;
 use second::say::fail;
@@ -20,22 +20,26 @@ fn main() {
     let mut lines = 0;
     for seed in from..=to {
         let bytes = traffic(seed, events).encode();
-        lines += compare(player, seed, "", &bytes);
-        lines += compare(player, seed, "-damaged", &damage(&bytes, seed));
+        lines += compare(player, &format!("seed-{seed}"), &bytes);
+        let damaged = damage(&bytes, seed);
+        lines += compare(player, &format!("seed-{seed}-damaged"), &damaged);
+    }
+    for (name, traffic) in edges() {
+        compare(player, name, &traffic.encode());
     }
     say!("{} seeds, {lines} lines, 0 differences", to - from + 1);
 }
 
 /// The number of lines in the log.
-fn compare(player: &str, seed: u64, kind: &str, bytes: &[u8]) -> usize {
+fn compare(player: &str, name: &str, bytes: &[u8]) -> usize {
     let own = own_log(bytes);
-    let other = log_of(player, bytes)
-        .unwrap_or_else(|why| fail(format_args!("{player}: seed {seed}{kind}: {why}")));
+    let other =
+        log_of(player, bytes).unwrap_or_else(|why| fail(format_args!("{player}: {name}: {why}")));
     let Some(found) = difference(&own, &other) else {
         return own.lines().count();
     };
-    let file = format!("seed-{seed}{kind}.traffic");
-    say!("seed {seed}{kind} differs at line {}", found.line + 1);
+    let file = format!("{name}.traffic");
+    say!("{name} differs at line {}", found.line + 1);
     say!("  here:  {}", found.one);
     say!("  there: {}", found.other);
     match std::fs::write(&file, bytes) {

@@ -238,6 +238,8 @@ impl Coverage {
         self.hit_if(rests, "link: drop with resting tags");
         let kept = before.reads().iter().any(|r| r.finished.is_some());
         self.hit_if(kept, "link: drop keeps a finished answer");
+        let kept = matches!(config, ConfigSlot::Finished(..));
+        self.hit_if(kept, "link: drop keeps a finished configuration answer");
         let failed = open_reads.clone().any(|r| !r.failures.is_empty());
         self.hit_if(failed, "link: drop with a failed piece");
     }

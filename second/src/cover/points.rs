@@ -79,6 +79,7 @@ link: drop with everything open
 link: drop with all 32 tags taken
 link: drop with resting tags
 link: drop keeps a finished answer
+link: drop keeps a finished configuration answer
 link: drop with a failed piece
 config: local with the link down
 config: local, device not 0

@@ -4,6 +4,7 @@
 pub(crate) mod bursts;
 pub(crate) mod configs;
 mod damage;
+mod edges;
 pub mod far;
 mod headers;
 mod odd;
@@ -12,6 +13,7 @@ mod scenes;
 mod settings;
 
 pub use damage::damage;
+pub use edges::edges;
 pub(crate) use headers::damage_completion as header_damage;
 pub use random::Random;
 pub use settings::{lawful as lawful_settings, WAYS};
