@@ -19,9 +19,9 @@ use Rattle.machine.specs.Ticks.{withLink, ticked}
 
 -- W1: 12340ABC, z 2, 1 beat, read, tag 0: 00 00 00 01 00 00 00 0F 56 71 0A BC
 pub record W1 : Type 0 where
-  pub number : readStep (up) (burst.incr 0x12340ABC 2 1) areaSize .answer .number ≡ 0
+  pub number : readStep up (burst.incr 0x12340ABC 2 1) areaSize .answer .number ≡ 0
   pub bytes :
-      readBytes (up) (burst.incr 0x12340ABC 2 1)
+      readBytes up (burst.incr 0x12340ABC 2 1)
       ≡ 0x00 ∷ 0x00 ∷ 0x00 ∷ 0x01 ∷ 0x00 ∷ 0x00 ∷ 0x00 ∷ 0x0F ∷ 0x56 ∷ 0x71 ∷ 0x0A ∷ 0xBC ∷ []
 
 -- the example settings with time limit 2, and the counter at its last value
@@ -57,21 +57,21 @@ readAt offset = accessOf offset false 0 0
 -- W2 to W9 as the bridge plays them: the headers it sends, and its numbers
 pub record Played : Type 0 where
   pub w2 :
-      readBytes (up) (burst.incr 0x12340ABC 2 64)
+      readBytes up (burst.incr 0x12340ABC 2 64)
       ≡ 0x00 ∷ 0x00 ∷ 0x00 ∷ 0x11 ∷ 0x00 ∷ 0x00 ∷ 0x00 ∷ 0xFF ∷ 0x56 ∷ 0x71 ∷ 0x0A ∷ 0xBC
       ∷ 0x00 ∷ 0x00 ∷ 0x00 ∷ 0x20 ∷ 0x00 ∷ 0x00 ∷ 0x01 ∷ 0xFF ∷ 0x56 ∷ 0x71 ∷ 0x0B ∷ 0x00
       ∷ 0x00 ∷ 0x00 ∷ 0x00 ∷ 0x0F ∷ 0x00 ∷ 0x00 ∷ 0x02 ∷ 0xFF ∷ 0x56 ∷ 0x71 ∷ 0x0B ∷ 0x80 ∷ []
   pub w3 :
-      readBytes (up) (burst.incr 0x12340ABE 2 2)
+      readBytes up (burst.incr 0x12340ABE 2 2)
       ≡ 0x00 ∷ 0x00 ∷ 0x00 ∷ 0x02 ∷ 0x00 ∷ 0x00 ∷ 0x00 ∷ 0xFC ∷ 0x56 ∷ 0x71 ∷ 0x0A ∷ 0xBC ∷ []
   pub w4 :
-      readBytes (up) (burst.incr 0x12340ABD 0 2)
+      readBytes up (burst.incr 0x12340ABD 0 2)
       ≡ 0x00 ∷ 0x00 ∷ 0x00 ∷ 0x01 ∷ 0x00 ∷ 0x00 ∷ 0x00 ∷ 0x06 ∷ 0x56 ∷ 0x71 ∷ 0x0A ∷ 0xBC ∷ []
   pub w5 :
-      map (λ q. readRefusal (up) q areaSize) (burst.incr 0x12340FFE 2 1 ∷ burst.incr 0x12340FFC 2 2 ∷ [])
+      map (λ q. readRefusal up q areaSize) (burst.incr 0x12340FFE 2 1 ∷ burst.incr 0x12340FFC 2 2 ∷ [])
       ≡ 0 ∷ 3 ∷ []
   pub w6 :
-      map (λ q. readRefusal (up) q areaSize) (burst.incr 0x1234FFFC 2 1 ∷ burst.incr 0x12350000 2 1 ∷ [])
+      map (λ q. readRefusal up q areaSize) (burst.incr 0x1234FFFC 2 1 ∷ burst.incr 0x12350000 2 1 ∷ [])
       ≡ 0 ∷ 2 ∷ []
   pub w7 :
       configBytes (busBridge exampleSettings 0 1 1) (readAt 0x00100000)
@@ -80,7 +80,7 @@ pub record Played : Type 0 where
       map (λ o. configRefusal (busBridge narrowSettings 0 1 1) (readAt o) areaSize) (0x001FFFFC ∷ 0x00200000 ∷ [])
       ≡ 11 ∷ 9 ∷ []
   pub w9 :
-      map (λ o. configRefusal (down) (readAt o) areaSize) (0x00000000 ∷ 0x00100000 ∷ [])
+      map (λ o. configRefusal down (readAt o) areaSize) (0x00000000 ∷ 0x00100000 ∷ [])
       ≡ 0 ∷ 10 ∷ []
   pub crossed : configRefusal (busBridge exampleSettings 0 3 2) (readAt 0x00300000) areaSize ≡ 10
 

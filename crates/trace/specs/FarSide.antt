@@ -86,7 +86,8 @@ abbrev pub When : Bool → Type 0 → Type 0
 When true A = A
 When false A = Unit
 
--- a failing status for a memory read; CRS, which is none, ends nothing here: the far side may do more than 01 lets it
+-- a failing status for a memory read. Whether 01 counts CRS as one there is open: here it ends nothing, so that the premise is
+-- no stronger under either reading
 abbrev pub fails : Completion → Bool
 fails c = not (eqb (c .status) 0) && not (eqb (c .status) 2)
 
