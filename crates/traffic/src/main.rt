@@ -1,5 +1,5 @@
 // Plays a traffic file, read from standard input, on the bridge and prints the log. Where the file is cut or damaged it
-// says so and stops.
+// says so and stops. Where a read or a write fails it stops too, after a line on standard error.
 mod made;
 
 use made::first_bridge;
@@ -36,8 +36,9 @@ fn play_record(
         return p;
     }
     if record::is_header(e.kind) {
-        play_header(event, e.kind, f, &bytes[0..n], area);
-        return p;
+        let mut q = p;
+        q.written = play_header(event, e.kind, f, &bytes[0..n], area);
+        return q;
     }
     play_event(p, event, e.kind, f, &bytes[0..n], store, area)
 }
@@ -55,10 +56,11 @@ fn turn(s: State, bytes: &mut [u8], store: &mut [u8], area: &mut [u8]) -> State 
             going: false,
         };
     }
+    let next = play_record(p, place.events, e, &f, bytes, store, area);
     State {
-        player: play_record(p, place.events, e, &f, bytes, store, area),
+        player: next,
         place: place.past(e),
-        going: true,
+        going: next.written,
     }
 }
 
@@ -78,10 +80,11 @@ fn play(first: State, bytes: &mut [u8], store: &mut [u8], area: &mut [u8]) {
 
 // Before the first record, after the log's first line.
 fn first_state(h: &[u8], more: &[u8], sum: u32) -> State {
+    let p = first_player(first_bridge(h, more), sum);
     State {
-        player: first_player(first_bridge(h, more), sum),
+        player: p,
         place: header::start(h),
-        going: true,
+        going: p.written,
     }
 }
 

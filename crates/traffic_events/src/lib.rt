@@ -22,6 +22,8 @@ pub struct Player {
     pub bridge: Bridge,
     // The checksum of the store.
     pub sum: u32,
+    // Whether the last line was written.
+    pub written: bool,
 }
 
 // What the line of an event shows after it.
@@ -38,10 +40,10 @@ fn shown_of(b: Bridge, event: u64, sum: u32) -> Shown {
 pub fn first_player(r: Answered, sum: u32) -> Player {
     let b = r.bridge;
     let answer = r.answer;
-    say_new(shown_of(b, 0, sum), answer.number);
     Player {
         bridge: b,
         sum: sum,
+        written: say_new(shown_of(b, 0, sum), answer.number),
     }
 }
 
@@ -84,10 +86,10 @@ fn play_with_area(
     let r = call_with_area(b, kind, f, bytes, area);
     let next = r.bridge;
     let answer = r.answer;
-    say_with_area(shown_of(next, event, p.sum), kind, answer, area);
     Player {
         bridge: next,
         sum: p.sum,
+        written: say_with_area(shown_of(next, event, p.sum), kind, answer, area),
     }
 }
 
@@ -123,19 +125,23 @@ fn play_with_store(
     let next = r.bridge;
     let answer = r.answer;
     let sum = sum_of(store);
-    say_with_store(shown_of(next, event, sum), kind, answer);
     Player {
         bridge: next,
         sum: sum,
+        written: say_with_store(shown_of(next, event, sum), kind, answer),
     }
 }
 
 // A look, with the part of the store that is lent.
-fn play_look(p: Player, event: u64, slot: u32, store: &[u8]) {
+fn play_look(p: Player, event: u64, slot: u32, store: &[u8]) -> Player {
     let b = p.bridge;
     let number = b.take_number(store, slot);
     let part = b.look(store, slot);
-    say_look(shown_of(b, event, p.sum), number, part);
+    Player {
+        bridge: b,
+        sum: p.sum,
+        written: say_look(shown_of(b, event, p.sum), number, part),
+    }
 }
 
 // A record of the bridge's events, with its fixed fields and its variable bytes.
@@ -157,7 +163,7 @@ pub fn play_event(
     }
     if kind == record::LOOK {
         if n <= store.len() {
-            play_look(p, event, word_at(f, 4), &store[0..n]);
+            return play_look(p, event, word_at(f, 4), &store[0..n]);
         }
         return p;
     }

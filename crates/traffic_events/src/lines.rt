@@ -1,4 +1,4 @@
-// The lines of the bridge's events.
+// The lines of the bridge's events. Each function says whether its line was written.
 use bridge::Answer;
 use bridge::Response;
 use ecam::Registers;
@@ -66,47 +66,47 @@ fn put_registers(line: &mut [u8; ROOM], at: usize, r: Registers) -> usize {
 }
 
 // The registers, the interrupt line and the store; then the line is printed.
-fn say(line: &mut [u8; ROOM], at: usize, s: Shown) {
+fn say(line: &mut [u8; ROOM], at: usize, s: Shown) -> bool {
     let registers = s.registers;
     let shown = put_registers(line, at, registers);
     let name = token(line, shown, b"line");
     let high = flag(line, name, s.line);
     let end = named_word(line, high, b"store", s.sum);
-    print(line, end);
+    print(line, end)
 }
 
 // The first line, after the header.
-pub fn say_new(s: Shown, refusal: u32) {
+pub fn say_new(s: Shown, refusal: u32) -> bool {
     let mut line = [0u8; ROOM];
     let name = put_all(&mut line, 0, b"new");
     let numbered = number(&mut line, name, refusal);
-    say(&mut line, numbered, s);
+    say(&mut line, numbered, s)
 }
 
 // A read, a write or a configuration access, after it was lent the area.
-pub fn say_with_area(s: Shown, kind: u32, a: Answer, area: &[u8]) {
+pub fn say_with_area(s: Shown, kind: u32, a: Answer, area: &[u8]) -> bool {
     let mut line = [0u8; ROOM];
     let name = begin(&mut line, s.event, kind);
     let answered = put_answer(&mut line, name, a);
     let summed = put_area(&mut line, answered, area);
-    say(&mut line, summed, s);
+    say(&mut line, summed, s)
 }
 
 // A completion, ticks, the link or a release.
-pub fn say_with_store(s: Shown, kind: u32, a: Answer) {
+pub fn say_with_store(s: Shown, kind: u32, a: Answer) -> bool {
     let mut line = [0u8; ROOM];
     let name = begin(&mut line, s.event, kind);
     let answered = put_answer(&mut line, name, a);
-    say(&mut line, answered, s);
+    say(&mut line, answered, s)
 }
 
 // A look, with its number and the part of the store that it gave.
-pub fn say_look(s: Shown, refusal: u32, part: &[u8]) {
+pub fn say_look(s: Shown, refusal: u32, part: &[u8]) -> bool {
     let mut line = [0u8; ROOM];
     let name = begin(&mut line, s.event, record::LOOK);
     let numbered = number(&mut line, name, refusal);
     let counted = named(&mut line, numbered, b"part", part.len() as u64);
     let summed = word(&mut line, counted, sum_of(part));
     let shown = put_part(&mut line, summed, part);
-    say(&mut line, shown, s);
+    say(&mut line, shown, s)
 }

@@ -1,8 +1,9 @@
 // The header of a file. In version 2 one more record follows it.
 use crate::reading::Place;
+use crate::reading::first_place;
 use crate::record;
 use common::index;
-use libc::STDOUT_FILENO;
+use streams::Fetched;
 use traffic_text::input::fetch;
 use traffic_text::input::word_at;
 
@@ -24,9 +25,9 @@ pub fn store_size(h: &[u8]) -> usize {
 // Where the first record begins.
 pub fn start(h: &[u8]) -> Place {
     if is_list(h) {
-        return Place { events: 0, at: 208 };
+        return first_place(208);
     }
-    Place { events: 0, at: 184 }
+    first_place(184)
 }
 
 // The magic, the version and the length of the store.
@@ -37,29 +38,36 @@ fn is_right(h: &[u8]) -> bool {
         & (store_size(h) <= record::STORE)
 }
 
-// The record after the header of a list; whether it came where it should.
-fn fetch_more(h: &[u8], more: &mut [u8]) -> bool {
-    if is_list(h) {
-        return fetch(more, RECORD);
-    }
-    true
+// The file has no right header.
+fn refused(line: &[u8]) -> bool {
+    streams::write_all(line);
+    false
 }
 
-fn refused(line: &[u8]) -> bool {
-    io::write_all(STDOUT_FILENO, line);
-    false
+// Whether a part of the header came; where the file ends in it, it is cut.
+fn has_come(part: Fetched) -> bool {
+    match part {
+        Fetched::All => true,
+        Fetched::Ended => refused(b"cut header at 0\n"),
+        Fetched::Failed => false,
+    }
+}
+
+// The record after the header of a list; whether it came where it should.
+fn read_more(h: &[u8], more: &mut [u8]) -> bool {
+    if is_list(h) {
+        return has_come(fetch(more, RECORD));
+    }
+    true
 }
 
 // Reads the header and the record after it; whether they came and are right.
 pub fn read_header(h: &mut [u8], more: &mut [u8]) -> bool {
-    if !fetch(h, HEADER) {
-        return refused(b"cut header at 0\n");
+    if !has_come(fetch(h, HEADER)) {
+        return false;
     }
     if !is_right(h) {
         return refused(b"damaged header at 0\n");
     }
-    if !fetch_more(h, more) {
-        return refused(b"cut header at 0\n");
-    }
-    true
+    read_more(h, more)
 }

@@ -37,6 +37,9 @@ pub const AREA: usize = 8192;
 
 pub const STORE: usize = 40960;
 
+// The most ticks that a file may ask for, which bounds the time to play it.
+pub const TICKS: u64 = 67108864;
+
 // The bytes of the fixed fields after the kind byte, 0 for what is no kind.
 pub fn fixed_size(kind: u32) -> usize {
     match kind {
@@ -71,6 +74,14 @@ fn length_place(kind: u32) -> usize {
 // How many variable bytes follow the fixed fields.
 pub fn variable_size(kind: u32, f: &[u8]) -> usize {
     index(word_at(f, length_place(kind)))
+}
+
+// The ticks that a record asks for.
+pub fn ticks(kind: u32, f: &[u8]) -> u32 {
+    if kind == TICK {
+        return word_at(f, 4);
+    }
+    0
 }
 
 pub fn lends_area(kind: u32) -> bool {

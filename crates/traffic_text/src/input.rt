@@ -1,14 +1,14 @@
 // Numbers in a file's bytes, most significant byte first, and reading the bytes. Past the end of a slice its bytes count as 0.
 use common::wide;
-use libc::STDIN_FILENO;
+use streams::Fetched;
 ghost use Prim.Native.Nat.{_^_, _<_};
 
-// The next n bytes of the file, to the front of a buffer; whether all of them came.
-pub fn fetch(buffer: &mut [u8], n: usize) -> bool {
+// The next n bytes of the file, to the front of a buffer that has room for them.
+pub fn fetch(buffer: &mut [u8], n: usize) -> Fetched {
     if n <= buffer.len() {
-        return io::read_full(STDIN_FILENO, &mut buffer[0..n]) == n;
+        return streams::read_all(&mut buffer[0..n]);
     }
-    false
+    Fetched::Ended
 }
 
 pub fn byte_at(s: &[u8], i: usize) -> u32

@@ -1,7 +1,6 @@
 // A line of the log, made in a buffer and printed whole. Each function takes the place where the line ends and gives the new one.
 use crate::sum::sum_of;
 use common::wide64;
-use libc::STDOUT_FILENO;
 
 // Longer than any line.
 pub const ROOM: usize = 512;
@@ -131,13 +130,15 @@ pub fn put_part(line: &mut [u8; ROOM], at: usize, part: &[u8]) -> usize {
     end
 }
 
-fn print_front(line: &[u8], end: usize) {
+fn print_front(line: &[u8], end: usize) -> bool {
     if end <= line.len() {
-        io::write_all(STDOUT_FILENO, &line[0..end]);
+        return streams::write_all(&line[0..end]);
     }
+    false
 }
 
-pub fn print(line: &mut [u8; ROOM], at: usize) {
+// Whether the line was written.
+pub fn print(line: &mut [u8; ROOM], at: usize) -> bool {
     let end = put(line, at, b'\n');
-    print_front(line, end);
+    print_front(line, end)
 }
