@@ -6,6 +6,8 @@ use common::index;
 use streams::Fetched;
 use traffic_text::input::fetch;
 use traffic_text::input::word_at;
+ghost use mathlib.Core.Path.{_≡_};
+ghost use Rattle.traffic_file.specs.Header.{isList, storeSize, isRight, startOf};
 
 // The bytes of the header, and of the record after it.
 pub const HEADER: usize = 184;
@@ -13,17 +15,23 @@ pub const HEADER: usize = 184;
 pub const RECORD: usize = 24;
 
 // Version 2 asks for a list, version 1 for plain arrays.
-pub fn is_list(h: &[u8]) -> bool {
+pub fn is_list(h: &[u8]) -> bool
+    ensures { λ r. ⌜ r ≡ isList (now (h .entry)) ⌝ }
+{
     word_at(h, 4) == 2
 }
 
 // The length of the store.
-pub fn store_size(h: &[u8]) -> usize {
+pub fn store_size(h: &[u8]) -> usize
+    ensures { λ r. ⌜ r ≡ storeSize (now (h .entry)) ⌝ }
+{
     index(word_at(h, 180))
 }
 
 // Where the first record begins.
-pub fn start(h: &[u8]) -> Place {
+pub fn start(h: &[u8]) -> Place
+    ensures { λ r. ⌜ (r .events ≡ 0) × (r .at ≡ startOf (now (h .entry))) × (r .ticks ≡ 0) ⌝ }
+{
     if is_list(h) {
         return first_place(208);
     }
@@ -31,7 +39,9 @@ pub fn start(h: &[u8]) -> Place {
 }
 
 // The magic, the version and the length of the store.
-fn is_right(h: &[u8]) -> bool {
+fn is_right(h: &[u8]) -> bool
+    ensures { λ r. ⌜ r ≡ isRight (now (h .entry)) ⌝ }
+{
     let version = word_at(h, 4);
     (word_at(h, 0) == 0x41504254)
         & ((version == 1) | (version == 2))

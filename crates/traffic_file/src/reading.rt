@@ -9,6 +9,7 @@ use traffic_text::line::print;
 use traffic_text::line::put_all;
 use traffic_text::line::put_decimal;
 use traffic_text::line::token;
+ghost use mathlib.Core.Path.{_≡_};
 
 // Where the next record begins.
 pub struct Place {
@@ -28,7 +29,9 @@ pub struct Entry {
 }
 
 // Where the first record begins.
-pub fn first_place(at: u64) -> Place {
+pub fn first_place(at: u64) -> Place
+    ensures { λ r. ⌜ (r .events ≡ 0) × (r .at ≡ at) × (r .ticks ≡ 0) ⌝ }
+{
     Place {
         events: 0,
         at: at,

@@ -2,6 +2,8 @@
 use common::index;
 use traffic_text::input::byte_at;
 use traffic_text::input::word_at;
+ghost use mathlib.Core.Path.{_≡_};
+ghost use Rattle.traffic_file.specs.Records.{fixedSize, variableSize, ticksOf, lendsArea, lendsStore, isHeader, lentWrong, restWrong, isWrong};
 
 pub const READ: u32 = 1;
 
@@ -41,7 +43,9 @@ pub const STORE: usize = 40960;
 pub const TICKS: u64 = 67108864;
 
 // The bytes of the fixed fields after the kind byte, 0 for what is no kind.
-pub fn fixed_size(kind: u32) -> usize {
+pub fn fixed_size(kind: u32) -> usize
+    ensures { λ r. ⌜ r ≡ fixedSize kind ⌝ }
+{
     match kind {
         READ => 24,
         WRITE => 28,
@@ -60,31 +64,32 @@ pub fn fixed_size(kind: u32) -> usize {
     }
 }
 
-// Where the field `length` of the variable bytes stands, 1,000 where there is none.
-fn length_place(kind: u32) -> usize {
+// How many variable bytes follow the fixed fields.
+pub fn variable_size(kind: u32, f: &[u8]) -> usize
+    ensures { λ r. ⌜ r ≡ variableSize kind (now (f .entry)) ⌝ }
+{
     match kind {
-        WRITE => 24,
-        COMPLETION => 4,
-        REQUEST_READER => 0,
-        COMPLETION_READER => 0,
-        _ => 1000,
+        WRITE => index(word_at(f, 24)),
+        COMPLETION => index(word_at(f, 4)),
+        REQUEST_READER => index(word_at(f, 0)),
+        COMPLETION_READER => index(word_at(f, 0)),
+        _ => 0,
     }
 }
 
-// How many variable bytes follow the fixed fields.
-pub fn variable_size(kind: u32, f: &[u8]) -> usize {
-    index(word_at(f, length_place(kind)))
-}
-
 // The ticks that a record asks for.
-pub fn ticks(kind: u32, f: &[u8]) -> u32 {
+pub fn ticks(kind: u32, f: &[u8]) -> u32
+    ensures { λ r. ⌜ r ≡ ticksOf kind (now (f .entry)) ⌝ }
+{
     if kind == TICK {
         return word_at(f, 4);
     }
     0
 }
 
-pub fn lends_area(kind: u32) -> bool {
+pub fn lends_area(kind: u32) -> bool
+    ensures { λ r. ⌜ r ≡ lendsArea kind ⌝ }
+{
     match kind {
         READ => true,
         WRITE => true,
@@ -95,17 +100,23 @@ pub fn lends_area(kind: u32) -> bool {
     }
 }
 
-fn lends_store(kind: u32) -> bool {
+fn lends_store(kind: u32) -> bool
+    ensures { λ r. ⌜ r ≡ lendsStore kind ⌝ }
+{
     (COMPLETION <= kind) & (kind <= RELEASE)
 }
 
 // Whether a header writer or reader plays it, without the bridge.
-pub fn is_header(kind: u32) -> bool {
+pub fn is_header(kind: u32) -> bool
+    ensures { λ r. ⌜ r ≡ isHeader kind ⌝ }
+{
     (REQUEST_WRITER <= kind) & (kind <= COMPLETION_READER)
 }
 
 // The length of what is lent, at most `most`.
-fn lent_wrong(kind: u32, f: &[u8], most: usize) -> bool {
+fn lent_wrong(kind: u32, f: &[u8], most: usize) -> bool
+    ensures { λ r. ⌜ r ≡ lentWrong kind (now (f .entry)) most ⌝ }
+{
     let n = index(word_at(f, 0));
     if lends_area(kind) {
         return AREA < n;
@@ -117,7 +128,9 @@ fn lent_wrong(kind: u32, f: &[u8], most: usize) -> bool {
 }
 
 // Flags are 0 or 1, targets at most 2, and a tick is repeated 1 to 131,072 times.
-fn rest_wrong(kind: u32, f: &[u8]) -> bool {
+fn rest_wrong(kind: u32, f: &[u8]) -> bool
+    ensures { λ r. ⌜ r ≡ restWrong kind (now (f .entry)) ⌝ }
+{
     match kind {
         CONFIG => 1 < byte_at(f, 12),
         TICK => (word_at(f, 4) == 0) | (131072 < word_at(f, 4)),
@@ -128,7 +141,9 @@ fn rest_wrong(kind: u32, f: &[u8]) -> bool {
     }
 }
 
-pub fn is_wrong(kind: u32, f: &[u8], most: usize) -> bool {
+pub fn is_wrong(kind: u32, f: &[u8], most: usize) -> bool
+    ensures { λ r. ⌜ r ≡ isWrong kind (now (f .entry)) most ⌝ }
+{
     if AREA < variable_size(kind, f) {
         return true;
     }

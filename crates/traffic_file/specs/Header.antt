@@ -1,0 +1,21 @@
+-- The header of a file (docs/TRAFFIC.md, 'Header').
+use Prim.Native.Nat.{ℕ}
+use mathlib.Core.List.{List}
+use mathlib.Core.Bool.{Bool, cond, _&&_, _||_}
+use lib.Dec.{leb, eqb}
+use Rattle.traffic_text.specs.Numbers.{wordAt}
+
+-- version 2 asks for a list, version 1 for plain arrays
+abbrev pub isList : List ℕ → Bool
+isList h = eqb (wordAt h 4) 2
+
+abbrev pub storeSize : List ℕ → ℕ
+storeSize h = wordAt h 180
+
+-- the magic, the version and the length of the store
+abbrev pub isRight : List ℕ → Bool
+isRight h = eqb (wordAt h 0) 0x41504254 && (eqb (wordAt h 4) 1 || eqb (wordAt h 4) 2) && leb (storeSize h) 40960
+
+-- where the first record begins
+abbrev pub startOf : List ℕ → ℕ
+startOf h = cond (isList h) 208 184
