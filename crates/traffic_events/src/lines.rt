@@ -3,6 +3,7 @@ use bridge::Answer;
 use bridge::Response;
 use ecam::Registers;
 use ecam::local_read;
+use refusals::response_code;
 use traffic_file::record;
 use traffic_text::line::ROOM;
 use traffic_text::line::begin;
@@ -29,22 +30,13 @@ pub struct Shown {
     pub sum: u32,
 }
 
-fn response_number(r: Response) -> u32 {
-    match r {
-        Response::Nothing => 1,
-        Response::Okay => 2,
-        Response::Slverr => 3,
-        Response::Decerr => 4,
-        Response::Wait => 5,
-    }
-}
-
+// By its number: AXI's coding, and past its two bits what is no response of the bus.
 fn put_response(line: &mut [u8; ROOM], at: usize, r: Response) -> usize {
     put_nth(
         line,
         at,
-        b" none OKAY SLVERR DECERR wait",
-        response_number(r),
+        b" OKAY EXOKAY SLVERR DECERR none wait",
+        std::num::wrapping_add_u32(response_code(r), 1),
     )
 }
 
