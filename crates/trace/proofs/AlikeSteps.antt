@@ -28,7 +28,7 @@ use Rattle.machine.specs.Ticks.{ticked, storeRefusal, linkIn, linkLost, dropSlo
 use Rattle.machine.specs.Take.{stateOf, takeRefusal, slotFreed, releaseStep}
 use Rattle.machine.proofs.Refusals.{read-ok}
 use Rattle.machine.proofs.Configs.{passed}
-use Rattle.trace.specs.Events.{Event, read, write, config, completion, tick, link, look, release, Out, sentBy, step}
+use Rattle.trace.specs.Events.{Call, read, write, config, look, release, Event, call, completion, tick, link, Out, sentBy, step}
 use Rattle.trace.specs.Sound.{Sound}
 use Rattle.trace.proofs.Settling.{state-config, state-above}
 use Rattle.trace.proofs.AlikeTwin.{refused-twin}
@@ -107,7 +107,7 @@ module _ (h g : Held) (p : Pair h g) where
       (answered (readBridge (g .bridge) q) (accepted Nothing (freeSlot (g .bridge)) (length (readBytes (g .bridge) q)) 0))
       (read-same (p .o) (p .l) (p .u) (h .bridge) (g .bridge) (p .twin) q room) (read-accepted q room v)
 
-  read-next : (q : Burst) (room : ℕ) → Sound h → Next h g (read q room)
+  read-next : (q : Burst) (room : ℕ) → Sound h → Next h g (call (read q room))
   read-next q room v =
       let b = read-both q room v in
       record {
@@ -133,7 +133,7 @@ module _ (h g : Held) (p : Pair h g) where
       (write-same (p .o) (p .l) (p .u) (h .bridge) (g .bridge) (p .twin) q (length bytes) room)
       (λ e. record { answer = ap (λ (s : List ℕ). accepted Okay 0 (length s) 0) (write-bytes q bytes room); pair = p })
 
-  write-next : (q : Burst) (bytes : List ℕ) (room : ℕ) → Next h g (write q bytes room)
+  write-next : (q : Burst) (bytes : List ℕ) (room : ℕ) → Next h g (call (write q bytes room))
   write-next q bytes room =
       let b = write-both q bytes room in
       record {
@@ -178,7 +178,7 @@ module _ (h g : Held) (p : Pair h g) where
             (config-pair a room v e (routeOf (h .bridge) a) refl);
       })
 
-  config-next : (a : Access) (room : ℕ) → Sound h → Next h g (config a room)
+  config-next : (a : Access) (room : ℕ) → Sound h → Next h g (call (config a room))
   config-next a room v =
       let b = config-both a room v in
       record {
@@ -252,7 +252,7 @@ module _ (h g : Held) (p : Pair h g) where
 
   -- ---- taking an answer
 
-  look-next : (k : ℕ) → Next h g (look k)
+  look-next : (k : ℕ) → Next h g (call (look k))
   look-next k = record {
     out = out-same (plain (takeRefusal (h .bridge) (length (h .store)) k)) (plain (takeRefusal (g .bridge) (length (g .store)) k)) [] [] _ _ (ap plain (take-same h g p k)) refl (looked-same h g p k);
     pair = p;
@@ -287,19 +287,22 @@ module _ (h g : Held) (p : Pair h g) where
         pair = record { o = p .o; l = p .l; u = cond (ltb k 8) (p .u) true; twin = freed-slot-twin (p .o) (p .l) (p .u) (h .bridge) (g .bridge) k (p .twin); stores = freed-stores h g k (slotFreed k (g .bridge)) (p .stores) };
       })
 
-  release-next : (k : ℕ) → Next h g (release k)
+  release-next : (k : ℕ) → Next h g (call (release k))
   release-next k =
       let b = release-both k in
       record { out = ap (λ (a : Answer). record { answer = a; sent = []; part = [] }) (b .answer); pair = b .pair }
 
 -- ---- any event
 
+called-next : (h g : Held) (c : Call) → Sound h → Pair h g → Next h g (call c)
+called-next h g (read q room) v p = read-next h g p q room v
+called-next h g (write q bytes room) v p = write-next h g p q bytes room
+called-next h g (config a room) v p = config-next h g p a room v
+called-next h g (look k) v p = look-next h g p k
+called-next h g (release k) v p = release-next h g p k
+
 pub next : (h g : Held) (e : Event) → Sound h → Pair h g → Next h g e
-next h g (read q room) v p = read-next h g p q room v
-next h g (write q bytes room) v p = write-next h g p q bytes room
-next h g (config a room) v p = config-next h g p a room v
+next h g (call c) v p = called-next h g c v p
 next h g (completion i s) v p = completion-next h g p i s v
 next h g tick v p = tick-next h g p
 next h g (link up) v p = link-next h g p up
-next h g (look k) v p = look-next h g p k
-next h g (release k) v p = release-next h g p k

@@ -25,7 +25,7 @@ use Rattle.machine.specs.Verdict.{memoryVerdict, configVerdict}
 use Rattle.machine.specs.Completions.{faulted, failed, finished, pieceClosed, advanced, memoryCompleted, configAnswer, configCompleted, verdictOf, completionOf, completeRefusal, expected, completed}
 use Rattle.machine.specs.Ticks.{timedOut, expire, expireTo, ticked, dropSlot, dropSlots, linkLost, linked}
 use Rattle.machine.specs.Take.{stateIn, stateOf, takeNumber, looked, slotFreed, releaseStep}
-use Rattle.trace.specs.Events.{read, config, completion, tick, link, look, release}
+use Rattle.trace.specs.Events.{read, config, look, release, call, completion, tick, link}
 use Rattle.trace.specs.FarSide.{paired}
 use Rattle.trace.specs.Claims.{Answered, Until, goodBytes, Left}
 use Rattle.trace.specs.Example.{settings, store, begun, four, ten, setBuses, onBus1, g1, sent, before, during, between, after, toConfig, events}
@@ -46,7 +46,7 @@ unfolding bit isSet setBit clearBit freeFrom validCompletion completionReserved 
 at-ten =
     record {
       long = leb-true 32768 32768 refl;
-      far = far-first sent begun (before ++ read ten areaSize ∷ during) (between ++ config onBus1 areaSize ∷ after) (met .far);
+      far = far-first sent begun (before ++ call (read ten areaSize) ∷ during) (between ++ call (config onBus1 areaSize) ∷ after) (met .far);
       taken = refl;
       slot = refl;
       untaken = (refl, (refl, (refl, (refl, tt))));
@@ -75,7 +75,7 @@ at-word : AtWord
 unfolding bit isSet setBit clearBit freeFrom validCompletion completionReserved readCompletion powerAmong eachFrom windowRight apart windowsRight settingsRight settingsNumber holds firstFrom windowOf translated endFrom burstRight burstNumber lengthOf pieceCount pieceFirst pieceEnd pieceAt addresses some decodeBits isDecodeBit byte strobe numbered writeBuses localWrite raised fresh route dataWord raisedCore opened counted shut freed freeSlotFrom responseOf refusalResponse refusalChange refusal accepted refused freshCore freshBridge newBridge pcieOf readRefusal claimed readTo readStep configNumber localCore routedBridge configStep memoryVerdict configVerdict faulted failed finished pieceClosed advanced memoryCompleted configAnswer configCompleted verdictOf completionOf completeRefusal expected completed timedOut expire expireTo ticked dropSlot dropSlots linkLost linked stateIn takeNumber looked slotFreed releaseStep
 at-word =
     record {
-      far = far-first sent begun (toConfig ++ config onBus1 areaSize ∷ completion 6 g1 ∷ []) _ (met .far);
+      far = far-first sent begun (toConfig ++ call (config onBus1 areaSize) ∷ completion 6 g1 ∷ []) _ (met .far);
       taken = refl;
       out = refl;
       young = ltb-true 0 2 refl;
@@ -109,8 +109,8 @@ at-first = record { taken = refl; slot = refl; late = leb-true 2 2 refl }
 
 read-ends : ReadEnds
 read-ends ends =
-    subst (λ (k : ℕ). Until (Answered k) k first (tick ∷ look 0 ∷ tick ∷ [])) (at-first .slot)
-    (ends settings store (at-ten .long) (link true ∷ []) four areaSize (tick ∷ look 0 ∷ tick ∷ []) (at-first .taken) (at-first .late))
+    subst (λ (k : ℕ). Until (Answered k) k first (tick ∷ call (look 0) ∷ tick ∷ [])) (at-first .slot)
+    (ends settings store (at-ten .long) (link true ∷ []) four areaSize (tick ∷ call (look 0) ∷ tick ∷ []) (at-first .taken) (at-first .late))
 
 -- ---- two bridges left alike
 
@@ -131,7 +131,7 @@ left-old =
       settings = settings;
       store = store;
       long = leb-true 32768 32768 refl;
-      events = events ++ link false ∷ config clearCauses areaSize ∷ release 8 ∷ [];
+      events = events ++ link false ∷ call (config clearCauses areaSize) ∷ call (release 8) ∷ [];
       came = refl;
       down = refl;
       taken = each-below (λ k. stateOf (old .bridge) k ≡ 0) 9 (refl, (refl, (refl, (refl, (refl, (refl, (refl, (refl, (refl, tt)))))))));
@@ -144,7 +144,7 @@ left-new =
       settings = settings;
       store = replicate 40000 9;
       long = leb-true 32768 40000 refl;
-      events = tick ∷ config setBuses areaSize ∷ release 8 ∷ [];
+      events = tick ∷ call (config setBuses areaSize) ∷ call (release 8) ∷ [];
       came = refl;
       down = refl;
       taken = each-below (λ k. stateOf (new .bridge) k ≡ 0) 9 (refl, (refl, (refl, (refl, (refl, (refl, (refl, (refl, (refl, tt)))))))));

@@ -62,12 +62,12 @@ found l a n y pos f t =
 
 -- ---- the read is accepted
 
-read-after : (h : Held) (q : Burst) (room : ℕ) → readRefusal (h .bridge) q room ≡ 0 → step h (event.read q room) .after ≡ held (readBridge (h .bridge) q) (h .store)
+read-after : (h : Held) (q : Burst) (room : ℕ) → readRefusal (h .bridge) q room ≡ 0 → step h (event.call (event.read q room)) .after ≡ held (readBridge (h .bridge) q) (h .store)
 unfolding readStep
 read-after h q room e = rw (eq-eqb (readRefusal (h .bridge) q room) 0 e)
 
 module _ (sent : ℕ → List (List ℕ)) (h : Held) (q : Burst) (room : ℕ) (s : Sound h) (e : readRefusal (h .bridge) q room ≡ 0) (pos : 0 < h .bridge .settings .reads) (w : Wire) (es : List Event)
-    (v : Wired sent h w (event.read q room ∷ es)) (a : AllAnswered sent (w .count) (turns (h .bridge) q)) where
+    (v : Wired sent h w (event.call (event.read q room) ∷ es)) (a : AllAnswered sent (w .count) (turns (h .bridge) q)) where
   abbrev l : ℕ
   l = h .bridge .settings .reads
 
@@ -202,20 +202,20 @@ module _ (sent : ℕ → List (List ℕ)) (l : ℕ) (pos : 0 < l) (q : Burst) (i
 pub bytes : Bytes
 bytes s store long sent before q room later far refusal untaken okay =
     let h = run (start s store) before in
-    let r = reach-start sent s store long before (event.read q room ∷ later) far in
+    let r = reach-start sent s store long before (event.call (event.read q room) ∷ later) far in
     let b = h .bridge in
     let w = r .wire in
     let pos = limit-some b (r .sound .right) in
     let ok = read-ok b q room refusal in
     let most = accepted-covers q (ok .burst) .most in
     let eq = asked-read h q room refusal in
-    let x = step h (event.read q room) .after in
-    let v : Stage sent (b .settings .reads) pos q (w .count) (freeSlot b) x (wireAfter w h (event.read q room)) later =
-    subst (λ (y : Held). Stage sent (b .settings .reads) pos q (w .count) (freeSlot b) y (wireAfter w h (event.read q room)) later) (sym (read-after h q room refusal))
+    let x = step h (event.call (event.read q room)) .after in
+    let v : Stage sent (b .settings .reads) pos q (w .count) (freeSlot b) x (wireAfter w h (event.call (event.read q room))) later =
+    subst (λ (y : Held). Stage sent (b .settings .reads) pos q (w .count) (freeSlot b) y (wireAfter w h (event.call (event.read q room))) later) (sym (read-after h q room refusal))
     (subst (λ (y : List Ask). Stage sent (b .settings .reads) pos q (w .count) (freeSlot b) (held (readBridge b q) (h .store)) (sending w y) later) (sym eq)
     (begins sent h q room (r .sound) refusal pos w later (r .wired) (rw eq at (r .along .1)))) in
-    let g = run-stage sent (b .settings .reads) pos q (w .count) (freeSlot b) (ok .slot) most later x (wireAfter w h (event.read q room)) (sound-step h (event.read q room) (r .sound))
-    (step-wired sent h (event.read q room) w later (r .sound) (r .along) (r .wired)) (r .along .2) untaken v in
+    let g = run-stage sent (b .settings .reads) pos q (w .count) (freeSlot b) (ok .slot) most later x (wireAfter w h (event.call (event.read q room))) (sound-step h (event.call (event.read q room)) (r .sound))
+    (step-wired sent h (event.call (event.read q room)) w later (r .sound) (r .along) (r .wired)) (r .along .2) untaken v in
     let d = holds sent (b .settings .reads) pos q (w .count) (freeSlot b) (ok .slot) most (run x later) (g .0) okay (g .1) in
     let t = bytes-of sent (b .settings .reads) pos q (w .count) (freeSlot b) (ok .slot) most (run x later) okay d in
     (t .0 ∙ ap (λ (n : ℕ). sentFor sent n b q) (r .count), t .1)

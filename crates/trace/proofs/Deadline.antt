@@ -67,14 +67,14 @@ read-since h q room v e t o =
     let b = h .bridge in
     sent-now (getD (readBridge b q .sent) t 0) (b .core .ticks) (read-newer h q room v e t o .sent) (v .clock) ∙ sym (accepted-read-keeps b q room e .ticks)
 
-read-waits : (h : Held) (q : Burst) (room : ℕ) → Sound h → readRefusal (h .bridge) q room ≡ 0 → Waits (freeSlot (h .bridge)) 0 (step h (event.read q room) .after)
+read-waits : (h : Held) (q : Burst) (room : ℕ) → Sound h → readRefusal (h .bridge) q room ≡ 0 → Waits (freeSlot (h .bridge)) 0 (step h (event.call (event.read q room)) .after)
 read-waits h q room v e =
     let b = h .bridge in
     let k = freeSlot b in
-    let x = step h (event.read q room) .after in
+    let x = step h (event.call (event.read q room)) .after in
     let o : stateOf (x .bridge) k ≡ 1 = subst (λ (y : Bridge). stateOf y k ≡ 1) (sym (read-step b q room e)) (read-opens h q room v e) in
     let s : Since (x .bridge) k 0 = subst (λ (y : Bridge). Since y k 0) (sym (read-step b q room e)) (read-since h q room v e) in
-    record { opens = o; since = s; soon = early x k 0 (sound-step h (event.read q room) v) o s (omega arith) }
+    record { opens = o; since = s; soon = early x k 0 (sound-step h (event.call (event.read q room)) v) o s (omega arith) }
 
 read-limit : (b : Bridge) (q : Burst) (room : ℕ) → readRefusal b q room ≡ 0 → readStep b q room .bridge .settings ≡ b .settings
 read-limit b q room e = ap (λ (y : Bridge). y .settings) (read-step b q room e) ∙ accepted-read-keeps b q room e .settings
@@ -83,7 +83,7 @@ pub read-deadline : ReadDeadline
 read-deadline s store l before q room later e t =
     let h = run (start s store) before in
     let v = run-sound s store l before in
-    answers later (freeSlot (h .bridge)) 0 (step h (event.read q room) .after) (sound-step h (event.read q room) v) (read-waits h q room v e)
+    answers later (freeSlot (h .bridge)) 0 (step h (event.call (event.read q room)) .after) (sound-step h (event.call (event.read q room)) v) (read-waits h q room v e)
     (rw (read-limit (h .bridge) q room e) (omega arith))
 
 -- ---- configuration accesses
@@ -116,11 +116,11 @@ routed-since h a room v e t o =
 
 module _ (h : Held) (a : Access) (room : ℕ) (v : Sound h) (e : configRefusal (h .bridge) a room ≡ 0) where
   abbrev after : Held
-  after = step h (event.config a room) .after
+  after = step h (event.call (event.config a room)) .after
 
   routed-answers : after .bridge ≡ routedBridge (h .bridge) a → (later : List Event) → h .bridge .settings .limit ≤ ticks later → Until (Answered 8) 8 after later
   routed-answers r later t =
-      let w = sound-step h (event.config a room) v in
+      let w = sound-step h (event.call (event.config a room)) v in
       let o : stateOf (after .bridge) 8 ≡ 1 = subst (λ (y : Bridge). stateOf y 8 ≡ 1) (sym r) (routed-opens (h .bridge) a) in
       let s : Since (after .bridge) 8 0 = subst (λ (y : Bridge). Since y 8 0) (sym r) (routed-since h a room v e) in
       let g : after .bridge .settings ≡ h .bridge .settings = ap (λ (y : Bridge). y .settings) r ∙ routed-keeps (h .bridge) a .settings in
@@ -134,7 +134,7 @@ module _ (h : Held) (a : Access) (room : ℕ) (v : Sound h) (e : configRefusal (
   config-answers later t OutOfRange r = absurd (eqb-false 9 0 refl (ap numberOf (sym r) ∙ passed (h .bridge .core) (routeOf (h .bridge) a) room e .routed))
   config-answers later t (Local w) r =
       let g : after .bridge ≡ localBridge (h .bridge) a w = config-step (h .bridge) a room e ∙ ap (configBridge (h .bridge) a) r in
-      already 8 after later (finished-answered 8 after (sound-step h (event.config a room) v) (subst (λ (y : Bridge). stateOf y 8 ≡ 2) (sym g) (local-state w)))
+      already 8 after later (finished-answered 8 after (sound-step h (event.call (event.config a room)) v) (subst (λ (y : Bridge). stateOf y 8 ≡ 2) (sym g) (local-state w)))
   config-answers later t Type0 r = routed-answers (config-step (h .bridge) a room e ∙ ap (configBridge (h .bridge) a) r) later t
   config-answers later t Type1 r = routed-answers (config-step (h .bridge) a room e ∙ ap (configBridge (h .bridge) a) r) later t
   config-answers later t NotRouted r = absurd (eqb-false 10 0 refl (ap numberOf (sym r) ∙ passed (h .bridge .core) (routeOf (h .bridge) a) room e .routed))

@@ -26,7 +26,7 @@ use Rattle.bridge_laws.proofs.TakeLaws.{release-frees}
 use Rattle.trace.specs.Events as event
 use Rattle.trace.specs.Events.{Event}
 use Rattle.trace.specs.Claims.{isTick}
-use Rattle.trace.proofs.View.{still, ticks}
+use Rattle.trace.proofs.View.{ticks}
 use Rattle.trace.proofs.Sound.{taken-finished}
 use Rattle.trace.proofs.Turn.{no-path}
 use Rattle.trace.proofs.DeadlineTables.{Busy, set-busy, Moved, failed-moved, shut-moved, freed-moved, piece-moved, moved-then}
@@ -43,14 +43,10 @@ pub record Goes (k : ℕ) (b x : Bridge) : Type 0 where
 
 -- the bridge with its counter stepped, if the event is a tick
 abbrev pub timed : Event → Bridge → Bridge
-timed (event.read q room) b = b
-timed (event.write q bs room) b = b
-timed (event.config a room) b = b
+timed (event.call c) b = b
 timed (event.completion i s) b = b
 timed event.tick b = coreIn (withTicks (nextTick (b .core .ticks)) (b .core)) b
 timed (event.link up) b = b
-timed (event.look k) b = b
-timed (event.release k) b = b
 
 -- an event is a tick, or it leaves the counter alone
 pub data Beat : Event → Type 0 where
@@ -58,18 +54,10 @@ pub data Beat : Event → Type 0 where
   quiet : {e : Event} → ((b : Bridge) → timed e b ≡ b) → isTick e ≡ 0 → Beat e
 
 pub beat : (e : Event) → Beat e
-beat (event.read q room) = quiet (λ b. refl) refl
-beat (event.write q bs room) = quiet (λ b. refl) refl
-beat (event.config a room) = quiet (λ b. refl) refl
+beat (event.call c) = quiet (λ b. refl) refl
 beat (event.completion i s) = quiet (λ b. refl) refl
 beat event.tick = beats
 beat (event.link up) = quiet (λ b. refl) refl
-beat (event.look k) = quiet (λ b. refl) refl
-beat (event.release k) = quiet (λ b. refl) refl
-
-pub still-timed : {e : Event} → Beat e → (b : Bridge) → still e ≡ true → timed e b ≡ b
-still-timed beats b s = never (sym s)
-still-timed (quiet f n) b s = f b
 
 pub state-goes : (k c d : ℕ) (s r : List ℕ) → (Busy c → Busy d) → (Busy (getD s k 0) → Busy (getD r k 0)) → Busy (stateIn c s k) → Busy (stateIn d r k)
 unfolding stateIn

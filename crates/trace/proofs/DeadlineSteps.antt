@@ -25,7 +25,7 @@ use Rattle.trace.proofs.Opening.{free-slot-free}
 use Rattle.trace.proofs.Turn.{no-path}
 use Rattle.trace.proofs.DeadlineTables.{Busy, memory-moved}
 use Rattle.trace.proofs.DeadlineOpens.{Even, Older, Newly, opened-tags, Read, read-tags}
-use Rattle.trace.proofs.DeadlineMoves.{OpenFor, Goes, timed, beat, still-timed, state-goes, goes-then, goes-core, goes-moved, open-some, config-goes, expire-all, lost-goes, drops-goes, release-goes}
+use Rattle.trace.proofs.DeadlineMoves.{OpenFor, Goes, timed, state-goes, goes-then, goes-core, goes-moved, open-some, config-goes, expire-all, lost-goes, drops-goes, release-goes}
 
 pub even : (b : Bridge) → Sizes b → Even b
 even b s =
@@ -138,7 +138,7 @@ module _ (k : ℕ) (b : Bridge) (a : Access) (room : ℕ) (s : Sizes b) (e : con
 -- ---- every event
 
 pub move-goes : (k : ℕ) {h x : Held} {e : Event} → Move h e x → Sizes (h .bridge) → stateOf (h .bridge) k ≡ 1 → Goes k (timed e (h .bridge)) (x .bridge)
-move-goes k {h} (idle {e = e} r s a l) z o = subst (λ (b : Bridge). Goes k b (coreIn (withRegisters r (h .bridge .core)) (h .bridge))) (sym (still-timed (beat e) (h .bridge) s)) (goes-core k (h .bridge) (withRegisters r (h .bridge .core)) (λ g. g) refl)
+move-goes k {h} (idle r a l) z o = goes-core k (h .bridge) (withRegisters r (h .bridge .core)) (λ g. g) refl
 move-goes k {h} (missed r f l) z o = goes-core k (h .bridge) (withRegisters r (h .bridge .core)) (λ g. g) refl
 move-goes k {h} (reads {q = q} {room = room} e) z o = read-goes k (h .bridge) q room z e o
 move-goes k {h} (locals {a = a} w e f) z o = local-goes k (h .bridge) a w

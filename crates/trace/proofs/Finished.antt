@@ -54,7 +54,7 @@ module _ (k : ℕ) (h : Held) (g : Sound h) (done : stateOf (h .bridge) k ≡ 2)
       absurd (omega (arith, state-above (h .bridge) j l, take.passed (length (h .store)) (stateOf (h .bridge) j) r .finished))
 
   pub move-answer : (e : Event) (x : Held) → Move h e x → x ≡ step h e .after → takes k h e ≡ false → AnswerSame k h x
-  move-answer e x (idle r s a lk) eq u = answer-bridge k h (x .bridge) refl refl refl refl refl (λ e. refl)
+  move-answer e x (idle r a lk) eq u = answer-bridge k h (x .bridge) refl refl refl refl refl (λ e. refl)
   move-answer e x (missed r f lk) eq u = answer-bridge k h (x .bridge) refl refl refl refl refl (λ e. refl)
   move-answer e x (reads {q = b} {room = room} f) eq u =
       record { slot = λ l. read-slot k h b room g f (used l); config = λ e. accepted-read-keeps (h .bridge) b room f .config; room = refl; beyond = λ i l. refl }

@@ -40,7 +40,7 @@ use Rattle.trace.specs.Events.{Event, step, run, start}
 use Rattle.trace.specs.Claims.{Answered, takes, Untaken, isDown, Steady}
 use Rattle.trace.specs.Sound.{Sizes, Sound}
 use Rattle.trace.specs.FirstFailure.{Failure, firstFailed, responseBy, pieceAtPlace, verdictFails, tickFails, failsBy, failures, completionFails, FirstFailure, FirstFailureGives}
-use Rattle.trace.proofs.View.{still, Move, idle, missed, reads, locals, routes, memories, configs, ticks, drops, links, releases, moves}
+use Rattle.trace.proofs.View.{Move, idle, missed, reads, locals, routes, memories, configs, ticks, drops, links, releases, moves}
 use Rattle.trace.proofs.Touch.{served}
 use Rattle.trace.proofs.Settling.{Fine, tag-below, owner-most, owner-open, state-below}
 use Rattle.trace.proofs.Serving.{OpenFor}
@@ -72,17 +72,7 @@ module _ (l a k : ℕ) (pos : 0 < l) (slot : k < 8) where
   config-none : (o : Option Failure) (b : Bridge) (s : List ℕ) (c : Completion) → completionOf s ≡ Header c → ownerOf b (c .tag) ≢ k → firstFailed o (completionFails l a k b (completionOf s)) ≡ o
   config-none o b s c e n = rw (e, ne-eqb (ownerOf b (c .tag)) k n)
 
-  still-none : (o : Option Failure) (h : Held) (e : Event) → still e ≡ true → firstFailed o (failsBy l a k h e) ≡ o
-  still-none o h (event.read q room) s = refl
-  still-none o h (event.write q bs room) s = refl
-  still-none o h (event.config x room) s = refl
-  still-none o h (event.completion i x) s = never (sym s)
-  still-none o h event.tick s = never (sym s)
-  still-none o h (event.link up) s = refl
-  still-none o h (event.look j) s = refl
-  still-none o h (event.release j) s = refl
-
-  not-this : (h : Held) (j : ℕ) → takeRefusal (h .bridge) (length (h .store)) j ≡ 0 → takes k h (event.release j) ≡ false → j ≢ k
+  not-this : (h : Held) (j : ℕ) → takeRefusal (h .bridge) (length (h .store)) j ≡ 0 → takes k h (event.call (event.release j)) ≡ false → j ≢ k
   not-this h j e f z = never (sym (rw (eq-eqb j k z, eq-eqb _ _ e)) ∙ f)
 
   busy-other : (h : Held) → Sound h → (o : Option Failure) → Keeps l a k pos o (h .bridge) → freeSlot (h .bridge) < 8 → freeSlot (h .bridge) ≢ k
@@ -98,9 +88,8 @@ module _ (l a k : ℕ) (pos : 0 < l) (slot : k < 8) where
   step-keeps : {h x : Held} {e : Event} → Move h e x → Sound h → takes k h e ≡ false → isDown e ≡ false
       → (o : Option Failure) → Keeps l a k pos o (h .bridge) → Keeps l a k pos (firstFailed o (failsBy l a k h e)) (x .bridge)
   unfolding localCore routedBridge
-  step-keeps {h} (idle {e = e} r s n i) v t d o w =
-      subst (λ z. Keeps l a k pos z (coreIn (withRegisters r (h .bridge .core)) (h .bridge))) (sym (still-none o h e s))
-      (tracks-shrinks l a k pos o (h .bridge) (coreIn (withRegisters r (h .bridge .core)) (h .bridge)) (core-smaller l a k pos slot (withRegisters r (h .bridge .core)) (h .bridge)) w)
+  step-keeps {h} (idle r n i) v t d o w =
+      tracks-shrinks l a k pos o (h .bridge) (coreIn (withRegisters r (h .bridge .core)) (h .bridge)) (core-smaller l a k pos slot (withRegisters r (h .bridge .core)) (h .bridge)) w
   step-keeps {h} (missed {s = s} r f i) v t d o w =
       subst (λ z. Keeps l a k pos z (coreIn (withRegisters r (h .bridge .core)) (h .bridge))) (sym (missed-none o (h .bridge) (completionOf s) f))
       (tracks-shrinks l a k pos o (h .bridge) (coreIn (withRegisters r (h .bridge .core)) (h .bridge)) (core-smaller l a k pos slot (withRegisters r (h .bridge .core)) (h .bridge)) w)
@@ -342,12 +331,12 @@ pub first-failure : FirstFailure
 first-failure s store long before q room later e untaken steady =
     let h = run (start s store) before in
     let v = run-sound s store long before in
-    let y = step h (event.read q room) .after in
+    let y = step h (event.call (event.read q room)) .after in
     let k = freeSlot (h .bridge) in
     let pos = limit-some (h .bridge) q room (fine-of h v) e in
     let w : Keeps (h .bridge .settings .reads) (q .start .0) k pos none (y .bridge) =
     subst (λ b. Keeps (h .bridge .settings .reads) (q .start .0) k pos none b) (sym (read-after (h .bridge) q room e)) (read-keeps (h .bridge) q room (fine-of h v) e) in
-    let r = run-keeps (h .bridge .settings .reads) (q .start .0) k pos (read-ok (h .bridge) q room e .slot) y later (sound-step h (event.read q room) v) untaken steady none w in
+    let r = run-keeps (h .bridge .settings .reads) (q .start .0) k pos (read-ok (h .bridge) q room e .slot) y later (sound-step h (event.call (event.read q room)) v) untaken steady none w in
     responded (h .bridge .settings .reads) (q .start .0) k pos (read-ok (h .bridge) q room e .slot)
     (firstFailed none (failures (h .bridge .settings .reads) (q .start .0) k y later)) (getD (run y later .bridge .fault) k 0)
     (getD (run y later .bridge .cause) k 0) (r .agrees)
@@ -359,6 +348,6 @@ release-gives h k l a = rw (eq-eqb _ _ a, lt-ltb _ _ l)
 pub first-failure-gives : FirstFailureGives
 first-failure-gives s store long before q room later e untaken steady answered =
     let h = run (start s store) before in
-    let x = run (step h (event.read q room) .after) later in
+    let x = run (step h (event.call (event.read q room)) .after) later in
     release-gives x (freeSlot (h .bridge)) (read-ok (h .bridge) q room e .slot) answered
     ∙ ap responseOf (first-failure s store long before q room later e untaken steady)

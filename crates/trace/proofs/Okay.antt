@@ -71,35 +71,35 @@ module _ (sent : ℕ → List (List ℕ)) (h : Held) (q : Burst) (room : ℕ) (v
 
   read-on : (w : Wire) (during : List Event)
       → ((j : ℕ) → j < piecesOf (b .settings .reads) q → goodBytes r (paired (w .count + j) during) ≡ pieceOf (b .settings .reads) q j .length)
-      → On sent k (reading.most sent r k small) (reading.Bytes sent r k small) (reading.Clean sent r k small) (readBridge b q) (wireAfter w h (event.read q room)) during
+      → On sent k (reading.most sent r k small) (reading.Bytes sent r k small) (reading.Clean sent r k small) (readBridge b q) (wireAfter w h (event.call (event.read q room))) during
   read-on w during f = record {
     clean = (accepted-read-opens b q room (tables-of b (v .sizes)) e .cause, ap (λ (s : Settings). s .requester) (accepted-read-keeps b q room e .settings));
     due = λ t o.
         let p = read-newer h q room v e t o in
-        ap (λ (i : ℕ). goodBytes r (paired i during)) (ap (ownOf (wireAfter w h (event.read q room) .live)) (p .tag) ∙ read-numbers sent h q room v e w (p .index) (p .below)) ∙ (f (p .index) (p .below) ∙ sym (p .missing));
+        ap (λ (i : ℕ). goodBytes r (paired i during)) (ap (ownOf (wireAfter w h (event.call (event.read q room)) .live)) (p .tag) ∙ read-numbers sent h q room v e w (p .index) (p .below)) ∙ (f (p .index) (p .below) ∙ sym (p .missing));
   }
 
-  read-answers : (n : ℕ) (during : List Event) → Reached sent h n (event.read q room ∷ during) → ticks during < b .settings .limit → Steady during
+  read-answers : (n : ℕ) (during : List Event) → Reached sent h n (event.call (event.read q room) ∷ during) → ticks during < b .settings .limit → Steady during
       → ((j : ℕ) → j < piecesOf (b .settings .reads) q → goodBytes r (paired (n + j) during) ≡ pieceOf (b .settings .reads) q j .length)
-      → Until (AnsweredOkay k) k (step h (event.read q room) .after) during
+      → Until (AnsweredOkay k) k (step h (event.call (event.read q room)) .after) during
   read-answers n during g l y f =
       let w = g .wire in
-      let w' = wireAfter w h (event.read q room) in
-      let x = step h (event.read q room) .after in
+      let w' = wireAfter w h (event.call (event.read q room)) in
+      let x = step h (event.call (event.read q room)) .after in
       let z : x .bridge ≡ readBridge b q = read-step b q room e in
       let o : stateOf (x .bridge) k ≡ 1 = subst (λ (u : Bridge). stateOf u k ≡ 1) (sym z) (read-opens h q room v e) in
       let s : Since (x .bridge) k 0 = subst (λ (u : Bridge). Since u k 0) (sym z) (read-since h q room v e) in
       let m : x .bridge .settings .limit ≡ b .settings .limit = ap (λ (u : Bridge). u .settings .limit) z ∙ ap (λ (u : Settings). u .limit) (accepted-read-keeps b q room e .settings) in
       let c = read-on w during (λ j i. subst (λ (p : ℕ). goodBytes r (paired (p + j) during) ≡ pieceOf (b .settings .reads) q j .length) (sym (g .count)) (f j i)) in
       answers-okay sent k (reading.most sent r k small) (reading.Bytes sent r k small) (reading.Clean sent r k small) (reading.read-rules sent r k small)
-      (λ u t p i. p .0 (sym i)) (λ u p i j. read-answer k small u p i (j .0)) during 0 x w' (sound-step h (event.read q room) v)
-      (step-wired sent h (event.read q room) w during v (g .along) (g .wired)) (g .along .2) y o s (rw m (omega arith))
+      (λ u t p i. p .0 (sym i)) (λ u p i j. read-answer k small u p i (j .0)) during 0 x w' (sound-step h (event.call (event.read q room)) v)
+      (step-wired sent h (event.call (event.read q room)) w during v (g .along) (g .wired)) (g .along .2) y o s (rw m (omega arith))
       (subst (λ (u : Bridge). On sent k (reading.most sent r k small) (reading.Bytes sent r k small) (reading.Clean sent r k small) u w' during) (sym z) c)
 
 pub read-okay : ReadOkay
 read-okay s store l sent before q room during far e t y f =
     let h = run (start s store) before in
-    let g = reach-start sent s store l before (event.read q room ∷ during) far in
+    let g = reach-start sent s store l before (event.call (event.read q room) ∷ during) far in
     read-answers sent h q room (g .sound) e (requests (start s store) before) during g t y f
 
 -- ---- local accesses
@@ -109,11 +109,11 @@ module _ (h : Held) (a : Access) (room : ℕ) (v : Sound h) (e : configRefusal (
   unfolding localCore
   finished w = (state-config (localBridge (h .bridge) a w), refl)
 
-  local-answers : (x : Route) → routeOf (h .bridge) a ≡ x → goesOut x ≡ false → AnsweredOkay 8 (step h (event.config a room) .after)
+  local-answers : (x : Route) → routeOf (h .bridge) a ≡ x → goesOut x ≡ false → AnsweredOkay 8 (step h (event.call (event.config a room)) .after)
   local-answers OutOfRange p g = absurd (eqb-false 9 0 refl (ap numberOf (sym p) ∙ passed (h .bridge .core) (routeOf (h .bridge) a) room e .routed))
   local-answers (Local w) p g =
-      let z : step h (event.config a room) .after .bridge ≡ localBridge (h .bridge) a w = config-step (h .bridge) a room e ∙ ap (configBridge (h .bridge) a) p in
-      config-answer (step h (event.config a room) .after) (sound-step h (event.config a room) v)
+      let z : step h (event.call (event.config a room)) .after .bridge ≡ localBridge (h .bridge) a w = config-step (h .bridge) a room e ∙ ap (configBridge (h .bridge) a) p in
+      config-answer (step h (event.call (event.config a room)) .after) (sound-step h (event.call (event.config a room)) v)
       (ap (λ (u : Bridge). stateOf u 8) z ∙ finished w .0) (ap (λ (u : Bridge). u .core .config .response) z ∙ finished w .1)
   local-answers Type0 p g = never g
   local-answers Type1 p g = never g
@@ -145,10 +145,10 @@ module _ (sent : ℕ → List (List ℕ)) (h : Held) (a : Access) (room : ℕ) (
   requester = h .bridge .settings .requester
 
   config-on : (w : Wire) (during : List Event) → anyGoodWord requester (a .write) (paired (w .count) during) ≡ true
-      → On sent 8 (configuring.most sent requester) (configuring.Word sent requester) (configuring.Clean sent requester) (routedBridge (h .bridge) a) (wireAfter w h (event.config a room)) during
+      → On sent 8 (configuring.most sent requester) (configuring.Word sent requester) (configuring.Clean sent requester) (routedBridge (h .bridge) a) (wireAfter w h (event.call (event.config a room))) during
   config-on w during f =
       let p = routed-keeps (h .bridge) a in
-      let w' = wireAfter w h (event.config a room) in
+      let w' = wireAfter w h (event.call (event.config a room)) in
       record {
         clean = (ap (λ (c : ConfigSlot). c .response) (p .config), ap (λ (s : Settings). s .requester) (p .settings));
         due = λ t o.
@@ -157,24 +157,24 @@ module _ (sent : ℕ → List (List ℕ)) (h : Held) (a : Access) (room : ℕ) (
             ∙ (ap (λ (i : ℕ). anyGoodWord requester (a .write) (paired i during)) (ap (ownOf (w' .live)) (n .tag) ∙ routed-number h a room e out w) ∙ f);
       }
 
-  config-answers : (n : ℕ) (during : List Event) → Reached sent h n (event.config a room ∷ during) → ticks during < h .bridge .settings .limit → Steady during
-      → anyGoodWord requester (a .write) (paired n during) ≡ true → Until (AnsweredOkay 8) 8 (step h (event.config a room) .after) during
+  config-answers : (n : ℕ) (during : List Event) → Reached sent h n (event.call (event.config a room) ∷ during) → ticks during < h .bridge .settings .limit → Steady during
+      → anyGoodWord requester (a .write) (paired n during) ≡ true → Until (AnsweredOkay 8) 8 (step h (event.call (event.config a room)) .after) during
   config-answers n during g l y f =
       let w = g .wire in
-      let w' = wireAfter w h (event.config a room) in
-      let x = step h (event.config a room) .after in
+      let w' = wireAfter w h (event.call (event.config a room)) in
+      let x = step h (event.call (event.config a room)) .after in
       let z : x .bridge ≡ routedBridge (h .bridge) a = config-step (h .bridge) a room e ∙ routed-step (h .bridge) a (routeOf (h .bridge) a) out in
       let o : stateOf (x .bridge) 8 ≡ 1 = subst (λ (u : Bridge). stateOf u 8 ≡ 1) (sym z) (routed-opens (h .bridge) a) in
       let s : Since (x .bridge) 8 0 = subst (λ (u : Bridge). Since u 8 0) (sym z) (routed-since h a room v e) in
       let m : x .bridge .settings .limit ≡ h .bridge .settings .limit = ap (λ (u : Bridge). u .settings .limit) z ∙ ap (λ (u : Settings). u .limit) (routed-keeps (h .bridge) a .settings) in
       let c = config-on w during (subst (λ (p : ℕ). anyGoodWord requester (a .write) (paired p during) ≡ true) (sym (g .count)) f) in
       answers-okay sent 8 (configuring.most sent requester) (configuring.Word sent requester) (configuring.Clean sent requester) (configuring.config-rules sent requester)
-      (λ u t p i. never (sym i)) (λ u p i j. config-answer u p i (j .0)) during 0 x w' (sound-step h (event.config a room) v)
-      (step-wired sent h (event.config a room) w during v (g .along) (g .wired)) (g .along .2) y o s (rw m (omega arith))
+      (λ u t p i. never (sym i)) (λ u p i j. config-answer u p i (j .0)) during 0 x w' (sound-step h (event.call (event.config a room)) v)
+      (step-wired sent h (event.call (event.config a room)) w during v (g .along) (g .wired)) (g .along .2) y o s (rw m (omega arith))
       (subst (λ (u : Bridge). On sent 8 (configuring.most sent requester) (configuring.Word sent requester) (configuring.Clean sent requester) u w' during) (sym z) c)
 
 pub config-okay : ConfigOkay
 config-okay s store l sent before a room during far e out t y f =
     let h = run (start s store) before in
-    let g = reach-start sent s store l before (event.config a room ∷ during) far in
+    let g = reach-start sent s store l before (event.call (event.config a room) ∷ during) far in
     config-answers sent h a room (g .sound) e out (requests (start s store) before) during g t y f

@@ -38,7 +38,7 @@ module _ (sent : ℕ → List (List ℕ)) (h : Held) (q : Burst) (room : ℕ) (v
   n = piecesOf (b .settings .reads) q
 
   abbrev asks : List Ask
-  asks = asked h (event.read q room)
+  asks = asked h (event.call (event.read q room))
 
   tag-at : (j : ℕ) → j < n → askAt (turns b q) j .tag ≡ tagOf b j
   tag-at j l = ap (λ (a : Ask). a .tag) (turn-is b q j l)
@@ -63,12 +63,12 @@ module _ (h : Held) (a : Access) (room : ℕ) (e : configRefusal (h .bridge) a r
   abbrev low : ℕ
   low = lowest tagCount (h .bridge .core .free)
 
-  pub routed-own : (w : Wire) (t : ℕ) → isSet (h .bridge .core .free) t ≡ false → ownOf (sending w (asked h (event.config a room)) .live) t ≡ ownOf (w .live) t
+  pub routed-own : (w : Wire) (t : ℕ) → isSet (h .bridge .core .free) t ≡ false → ownOf (sending w (asked h (event.call (event.config a room))) .live) t ≡ ownOf (w .live) t
   routed-own w t u = ap (λ (l : List Ask). ownOf (sending w l .live) t) (asked-word h a room e g) ∙ own-kept (wordAsk (h .bridge) a) w t other
     where
       other : (j : ℕ) → j < 1 → askAt (wordAsk (h .bridge) a) j .tag ≢ t
       other zero l z = never (sym (lowest-is tagCount (h .bridge .core .free) (passed (h .bridge .core) (routeOf (h .bridge) a) room e .tag g) .tag .free) ∙ (ap (isSet (h .bridge .core .free)) z ∙ u))
       other (suc j) l z = absurd (omega arith)
 
-  pub routed-number : (w : Wire) → ownOf (sending w (asked h (event.config a room)) .live) low ≡ w .count
+  pub routed-number : (w : Wire) → ownOf (sending w (asked h (event.call (event.config a room))) .live) low ≡ w .count
   routed-number w = ap (λ (l : List Ask). ownOf (sending w l .live) low) (asked-word h a room e g) ∙ rw (eq-eqb low low refl)

@@ -26,7 +26,7 @@ use Rattle.trace.specs.Events.{Event}
 use Rattle.trace.specs.FarSide.{Ask, Wire, sending, wireAfter, PairedBy, Paired, paired}
 use Rattle.trace.specs.Claims.{isDown}
 use Rattle.trace.specs.Sound.{Sound}
-use Rattle.trace.proofs.View.{Move, still, idle, missed, reads, locals, routes, memories, configs, ticks, drops, links, releases}
+use Rattle.trace.proofs.View.{Move, idle, missed, reads, locals, routes, memories, configs, ticks, drops, links, releases}
 use Rattle.trace.proofs.Settling.{owner-most}
 use Rattle.trace.proofs.Sound.{fine-of}
 use Rattle.trace.proofs.Wire.{At, ownOf, Wired, own-comes, paired-own, paired-other}
@@ -35,17 +35,6 @@ use Rattle.trace.proofs.DeadlineMoves.{OpenFor, timed, open-some}
 use Rattle.trace.proofs.DeadlineAges.{Since}
 use Rattle.trace.proofs.OkayCalm.{Calm, calm-core, calm-then, read-calm, local-calm, routed-calm, release-calm, memory-calm, config-calm, expires-calm}
 use Rattle.trace.proofs.OkayAsks.{read-own, routed-own}
-
--- only a completion takes one of those still to come
-still-paired : (e : Event) (i : ℕ) (es : List Event) → still e ≡ true → paired i (e ∷ es) ≡ paired i es
-still-paired (event.read q room) i es s = refl
-still-paired (event.write q bs room) i es s = refl
-still-paired (event.config a room) i es s = refl
-still-paired (event.completion j x) i es s = never (sym s)
-still-paired event.tick i es s = refl
-still-paired (event.link up) i es s = refl
-still-paired (event.look k) i es s = refl
-still-paired (event.release k) i es s = refl
 
 module _ (sent : ℕ → List (List ℕ)) (k : ℕ) (small : k ≤ 8) (P : Bridge → ℕ → List (List ℕ) → Type 0) (C : Bridge → Type 0) where
   -- each open tag of the slot gets what is due to it
@@ -160,21 +149,21 @@ module _ (sent : ℕ → List (List ℕ)) (k : ℕ) (small : k ≤ 8) (P : Bridg
       -- ---- every event; c ticks have come since the access, this one's included
       pub move-on : {e : Event} {x : Held} → Move h e x → Wired sent h w (e ∷ es) → Paired w e → isDown e ≡ false → stateOf b k ≡ 1
           → (c : ℕ) → Since (timed e b) k c → c < b .settings .limit → c < 4294967296 → On b w (e ∷ es) → On (x .bridge) (wireAfter w h e) es
-      move-on (idle {e = e} r s a l) d p n z c g m y o =
-          calm-on b (coreIn (withRegisters r (b .core)) b) w (wireAfter w h e) e es (calm-core k b (withRegisters r (b .core)) (λ q. refl))
-          (λ t q. ap (λ (u : Wire). paired (ownOf (u .live) t) es) (idle-wire h e w s a) ∙ sym (still-paired e (ownOf (w .live) t) es s)) o
+      move-on (idle {c = e} r a l) d p n z c g m y o =
+          calm-on b (coreIn (withRegisters r (b .core)) b) w (wireAfter w h (event.call e)) (event.call e) es (calm-core k b (withRegisters r (b .core)) (λ q. refl))
+          (λ t q. ap (λ (u : Wire). paired (ownOf (u .live) t) es) (idle-wire h e w a)) o
       move-on (missed {i = i} {s = s} r f l) d p n z c g m y o =
           let x = coreIn (withRegisters r (b .core)) b in
           let q = calm-core k b (withRegisters r (b .core)) (λ q. refl) in
           record { clean = rules .calm-clean b x q (o .clean); due = λ t j. rules .calm-due b x q t j (paired (ownOf (w .live) t) es) (missed-due i s d p o f (completionOf s) refl t j) }
       move-on (reads {q = q} {room = room} e) d p n z c g m y o =
-          calm-on b _ w (wireAfter w h (event.read q room)) (event.read q room) es (read-calm k b q room (v .sizes) e z)
+          calm-on b _ w (wireAfter w h (event.call (event.read q room))) (event.call (event.read q room)) es (read-calm k b q room (v .sizes) e z)
           (λ t j. ap (λ (i : ℕ). paired i es) (read-own sent h q room v e w t (v .tags t (j .0) .used))) o
       move-on (locals {a = a} {room = room} u e f) d p n z c g m y o =
-          calm-on b _ w (wireAfter w h (event.config a room)) (event.config a room) es (local-calm k b a room u (v .sizes) e z)
+          calm-on b _ w (wireAfter w h (event.call (event.config a room))) (event.call (event.config a room)) es (local-calm k b a room u (v .sizes) e z)
           (λ t j. ap (λ (l : List Ask). paired (ownOf (sending w l .live) t) es) (local-asks h a room u f)) o
       move-on (routes {a = a} {room = room} e f) d p n z c g m y o =
-          calm-on b _ w (wireAfter w h (event.config a room)) (event.config a room) es (routed-calm k b a room (v .sizes) e z)
+          calm-on b _ w (wireAfter w h (event.call (event.config a room))) (event.call (event.config a room)) es (routed-calm k b a room (v .sizes) e z)
           (λ t j. ap (λ (i : ℕ). paired i es) (routed-own h a room e f w t (v .tags t (j .0) .used))) o
       move-on (memories {i = i} {s = s} q u e r f l a j) d p n z c g m y o =
           memory-on i s d p o q u e (open-some _ _ f) l a j (ℕ-discrete (ownerOf b (q .tag)) k)
@@ -189,4 +178,4 @@ module _ (sent : ℕ → List (List ℕ)) (k : ℕ) (small : k ≤ 8) (P : Bridg
       move-on (links true q) d p n z c g m y o =
           calm-on b (coreIn (linkIn true (b .core)) b) w w (event.link true) es (calm-core k b (linkIn true (b .core)) (λ q. refl)) (λ t j. refl) o
       move-on (links false q) d p n z c g m y o = never n
-      move-on (releases {k = i} e) d p n z c g m y o = calm-on b _ w w (event.release i) es (release-calm k b (length (h .store)) i e z) (λ t j. refl) o
+      move-on (releases {k = i} e) d p n z c g m y o = calm-on b _ w w (event.call (event.release i)) es (release-calm k b (length (h .store)) i e z) (λ t j. refl) o

@@ -35,7 +35,7 @@ use Rattle.machine.proofs.Refusals.{read-ok}
 use Rattle.bridge_laws.proofs.Stored.{accepted-read-opens}
 use Rattle.bridge_laws.proofs.Sends.{turn, accepted-read-sends}
 use Rattle.machine.proofs.Configs.{passed}
-use Rattle.trace.specs.Events.{Event, read, config}
+use Rattle.trace.specs.Events.{Event, call, read, config}
 use Rattle.trace.specs.FarSide.{word, Ask, askOf, asked, Wire, sending, AllAnswered}
 use Rattle.trace.specs.Sound.{Sizes, Sound}
 use Rattle.trace.proofs.Counts.{is-named, open-none}
@@ -66,7 +66,7 @@ turns-many b q = turns-length (askOf b q) 0 (piecesOf (b .settings .reads) q)
 pub turn-is : (b : Bridge) (q : Burst) (j : ℕ) → j < piecesOf (b .settings .reads) q → askAt (turns b q) j ≡ askOf b q j
 turn-is b q j h = let z : 0 + j ≡ j = omega arith in turn-at (askOf b q) 0 (piecesOf (b .settings .reads) q) j h ∙ ap (askOf b q) z
 
-pub asked-read : (h : Held) (q : Burst) (room : ℕ) → readRefusal (h .bridge) q room ≡ 0 → asked h (read q room) ≡ turns (h .bridge) q
+pub asked-read : (h : Held) (q : Burst) (room : ℕ) → readRefusal (h .bridge) q room ≡ 0 → asked h (call (read q room)) ≡ turns (h .bridge) q
 asked-read h q room e = rw (eq-eqb (readRefusal (h .bridge) q room) 0 e)
 
 -- ---- tags that are not taken
@@ -205,9 +205,9 @@ module _ (sent : ℕ → List (List ℕ)) (h : Held) (q : Burst) (room : ℕ) (s
       let y = reads-other b q u (read-ok b q room e .tags) f in
       record { missing = y .missing; owner = y .owner; next = y .next; kind = y .kind; free = λ z. sym (y .free) ∙ z }
 
-  module _ (w : Wire) (es : List Event) (after : Sound (held x (h .store))) (v : Wired sent h w (read q room ∷ es)) (a : AllAnswered sent (w .count) (turns b q)) where
+  module _ (w : Wire) (es : List Event) (after : Sound (held x (h .store))) (v : Wired sent h w (call (read q room) ∷ es)) (a : AllAnswered sent (w .count) (turns b q)) where
     now : Wired sent h w es
-    now = wired-later sent h w (read q room) es v
+    now = wired-later sent h w (call (read q room)) es v
 
     fine-turn : (j : ℕ) → j < piecesOf (b .settings .reads) q → TagFine sent x (sending w (turns b q)) es (askAt (turns b q) j .tag)
     fine-turn j l =
@@ -235,7 +235,7 @@ module _ (sent : ℕ → List (List ℕ)) (h : Held) (q : Burst) (room : ℕ) (s
 abbrev pub wordAsk : Bridge → Access → List Ask
 wordAsk b a = record { tag = lowest tagCount (b .core .free); wanted = word } ∷ []
 
-pub asked-word : (h : Held) (a : Access) (room : ℕ) → configRefusal (h .bridge) a room ≡ 0 → goesOut (routeOf (h .bridge) a) ≡ true → asked h (config a room) ≡ wordAsk (h .bridge) a
+pub asked-word : (h : Held) (a : Access) (room : ℕ) → configRefusal (h .bridge) a room ≡ 0 → goesOut (routeOf (h .bridge) a) ≡ true → asked h (call (config a room)) ≡ wordAsk (h .bridge) a
 asked-word h a room e o = rw (eq-eqb (configRefusal (h .bridge) a room) 0 e, o)
 
 module _ (sent : ℕ → List (List ℕ)) (h : Held) (a : Access) (room : ℕ) (s : Sound h) (e : configRefusal (h .bridge) a room ≡ 0) (o : goesOut (routeOf (h .bridge) a) ≡ true) where
@@ -259,9 +259,9 @@ module _ (sent : ℕ → List (List ℕ)) (h : Held) (a : Access) (room : ℕ) (
   unfolding routedBridge opened
   word-used = clear-clears (h .bridge .core .free) tag .here
 
-  module _ (w : Wire) (es : List Event) (v : Wired sent h w (config a room ∷ es)) (r : AllAnswered sent (w .count) (wordAsk (h .bridge) a)) where
+  module _ (w : Wire) (es : List Event) (v : Wired sent h w (call (config a room) ∷ es)) (r : AllAnswered sent (w .count) (wordAsk (h .bridge) a)) where
     still-wired : Wired sent h w es
-    still-wired = wired-later sent h w (config a room) es v
+    still-wired = wired-later sent h w (call (config a room)) es v
 
     pub word-wired : Wired sent (held (routedBridge (h .bridge) a) (h .store)) (sending w (wordAsk (h .bridge) a)) es
     word-wired = record { labels = labels-sending sent w es (wordAsk (h .bridge) a) (still-wired .labels); tags = λ u. by u (ℕ-discrete u tag) }

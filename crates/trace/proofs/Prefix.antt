@@ -5,7 +5,7 @@ use mathlib.Core.List.{List, [], _∷_, _++_}
 use mathlib.Core.Bool.{Bool, true, false, cond, _&&_}
 use lib.Dec.{eqb}
 use Rattle.machine.specs.Completions.{Held, completionOf}
-use Rattle.trace.specs.Events.{Event, read, write, config, completion, tick, link, look, release, step}
+use Rattle.trace.specs.Events.{Event, call, completion, tick, link, step}
 use Rattle.trace.specs.FarSide.{Wire, wireAfter, Some, none, came, lost, readable, paired, Along, FarFirst}
 
 -- some of a list may be none of it, and fewer of them are some of it too
@@ -25,15 +25,11 @@ kept-or-not false s l k = refl
 
 paired-parts : (i : ℕ) (es fs : List Event) → paired i (es ++ fs) ≡ paired i es ++ paired i fs
 paired-parts i [] fs = refl
-paired-parts i (read q room ∷ es) fs = paired-parts i es fs
-paired-parts i (write q bs room ∷ es) fs = paired-parts i es fs
-paired-parts i (config a room ∷ es) fs = paired-parts i es fs
+paired-parts i (call c ∷ es) fs = paired-parts i es fs
 paired-parts i (completion j s ∷ es) fs =
     rw (paired-parts i es fs) (kept-or-not (eqb i j && readable (completionOf s)) s (paired i es) (paired i fs))
 paired-parts i (tick ∷ es) fs = paired-parts i es fs
 paired-parts i (link up ∷ es) fs = paired-parts i es fs
-paired-parts i (look k ∷ es) fs = paired-parts i es fs
-paired-parts i (release k ∷ es) fs = paired-parts i es fs
 
 along-first : (sent : ℕ → List (List ℕ)) (h : Held) (w : Wire) (es fs : List Event) → Along sent h w (es ++ fs) → Along sent h w es
 along-first sent h w [] fs a = tt

@@ -50,7 +50,7 @@ use Rattle.trace.proofs.Lapsing.{Lasts, lapses}
 -- ---- one event
 
 -- a slot that is released is another one
-pub release-other : (k j : ℕ) (h : Held) → takes k h (event.release j) ≡ false → takeRefusal (h .bridge) (length (h .store)) j ≡ 0 → k ≢ j
+pub release-other : (k j : ℕ) (h : Held) → takes k h (event.call (event.release j)) ≡ false → takeRefusal (h .bridge) (length (h .store)) j ≡ 0 → k ≢ j
 release-other k j h f e z = no-way (sym (rw (eq-eqb j k (sym z), eq-eqb (takeRefusal (h .bridge) (length (h .store)) j) 0 e)) ∙ f)
 
 pub release-slot : (k j : ℕ) (h : Held) (z : Bool) → ltb j 8 ≡ z → k ≢ j → SlotSame k h (held (slotFreed j (h .bridge)) (h .store))
@@ -135,23 +135,23 @@ module _ (sent : ℕ → List (List ℕ)) (l : ℕ) (pos : 0 < l) (q : Burst) (i
 
   pub move-stage : (h : Held) (e : Event) (x : Held) → Move h e x → x ≡ step h e .after → (w : Wire) (es : List Event) → Sound h → Wired sent h w (e ∷ es) → Paired w e → takes k h e ≡ false
       → At h w (e ∷ es) → At x (wireAfter w h e) es
-  move-stage h e x (idle r s a lk) eq w es g d p u v =
-      subst (λ (z : Wire). At x z es) (sym (idle-wire h e w s a))
+  move-stage h e x (idle {c = c} r a lk) eq w es g d p u v =
+      subst (λ (z : Wire). At x z es) (sym (idle-wire h c w a))
       (pass h x e w w es (record { state = refl; size = refl; pieces = refl; fault = refl; cause = refl; bytes = λ i g. refl }) (λ y. same-tags k (h .bridge) (x .bridge) w refl refl refl) v)
   move-stage h e x (missed r f lk) eq w es g d p u v =
       pass h x e w w es (record { state = refl; size = refl; pieces = refl; fault = refl; cause = refl; bytes = λ i g. refl }) (λ y. same-tags k (h .bridge) (x .bridge) w refl refl refl) v
   move-stage h e x (reads {q = b} {room = room} f) eq w es g d p u v =
       let n = stage-used sent l pos q i k h w (e ∷ es) v in
-      let y : TagsStay k (h .bridge) (readBridge (h .bridge) b) w (wireAfter w h (event.read b room)) =
+      let y : TagsStay k (h .bridge) (readBridge (h .bridge) b) w (wireAfter w h (event.call (event.read b room))) =
       subst (λ (z : List _). TagsStay k (h .bridge) (readBridge (h .bridge) b) w (sending w z)) (sym (asked-read h b room f)) (read-tags k h b room g f n sent w) in
-      pass h x e w (wireAfter w h (event.read b room)) es (read-slot k h b room g f n) (λ z. y) v
+      pass h x e w (wireAfter w h (event.call (event.read b room))) es (read-slot k h b room g f n) (λ z. y) v
   move-stage h e x (locals {a = a} {room = room} o f r) eq w es g d p u v =
       subst (λ (z : Wire). At x z es) (sym (ap (sending w) (local-asks h a room o r)))
       (pass h x e w w es (local-slot k h a o) (λ y. let z = local-tags (h .bridge) a o in same-tags k (h .bridge) (x .bridge) w (z .missing) (z .owner) (z .place)) v)
   move-stage h e x (routes {a = a} {room = room} f o) eq w es g d p u v =
-      let y : TagsStay k (h .bridge) (routedBridge (h .bridge) a) w (wireAfter w h (event.config a room)) =
+      let y : TagsStay k (h .bridge) (routedBridge (h .bridge) a) w (wireAfter w h (event.call (event.config a room))) =
       subst (λ (z : List _). TagsStay k (h .bridge) (routedBridge (h .bridge) a) w (sending w z)) (sym (asked-word h a room f o)) (word-tags k small h a room g f o sent w) in
-      pass h x e w (wireAfter w h (event.config a room)) es (word-slot k small h a room g f o) (λ z. y) v
+      pass h x e w (wireAfter w h (event.call (event.config a room))) es (word-slot k small h a room g f o) (λ z. y) v
   move-stage h e x (memories {i = label} {s = s} c t f r o lt j n) eq w es g d p u v =
       memory-stage h x label s c t w es f (open-missing (missingOf (h .bridge) (c .tag)) (placeOf (h .bridge) (c .tag)) o) j
       (served h (c .tag) (ownerOf (h .bridge) (c .tag)) (c .lower % 4) (drop 12 s) t n) eq g d p v

@@ -61,7 +61,7 @@ module _ (h : Held) (v : Sound h) where
       ∙ sym (flat-map (headerOf b) (askOf b q) (addresses 0 (piecesOf (b .settings .reads) q)))
   read-by q room false e = sym (flat-none (headerOf b))
 
-  read-sent : (q : Burst) (room : ℕ) → step h (event.read q room) .out .sent ≡ flatMap (headerOf b) (asked h (event.read q room))
+  read-sent : (q : Burst) (room : ℕ) → step h (event.call (event.read q room)) .out .sent ≡ flatMap (headerOf b) (asked h (event.call (event.read q room)))
   read-sent q room = read-by q room (eqb (readRefusal b q room) 0) refl
 
   abbrev ask : Ask
@@ -75,18 +75,18 @@ module _ (h : Held) (v : Sound h) where
   config-by a room true false e g = sym (flat-none (wordPacket b a))
   config-by a room false g e f = sym (flat-none (wordPacket b a))
 
-  config-sent : (a : Access) (room : ℕ) → step h (event.config a room) .out .sent ≡ flatMap (wordPacket b a) (asked h (event.config a room))
+  config-sent : (a : Access) (room : ℕ) → step h (event.call (event.config a room)) .out .sent ≡ flatMap (wordPacket b a) (asked h (event.call (event.config a room)))
   config-sent a room = config-by a room (eqb (configRefusal b a room) 0) (goesOut (routeOf b a)) refl refl
 
   nothing-sent : (e : Event) → isWrite e ≡ false → asked h e ≡ [] → step h e .out .sent ≡ []
-  nothing-sent (event.read q room) w n = read-sent q room ∙ (ap (flatMap (headerOf b)) n ∙ flat-none (headerOf b))
-  nothing-sent (event.write q bs room) w n = never w
-  nothing-sent (event.config a room) w n = config-sent a room ∙ (ap (flatMap (wordPacket b a)) n ∙ flat-none (wordPacket b a))
+  nothing-sent (event.call (event.read q room)) w n = read-sent q room ∙ (ap (flatMap (headerOf b)) n ∙ flat-none (headerOf b))
+  nothing-sent (event.call (event.write q bs room)) w n = never w
+  nothing-sent (event.call (event.config a room)) w n = config-sent a room ∙ (ap (flatMap (wordPacket b a)) n ∙ flat-none (wordPacket b a))
   nothing-sent (event.completion i s) w n = refl
   nothing-sent event.tick w n = refl
   nothing-sent (event.link up) w n = refl
-  nothing-sent (event.look k) w n = refl
-  nothing-sent (event.release k) w n = refl
+  nothing-sent (event.call (event.look k)) w n = refl
+  nothing-sent (event.call (event.release k)) w n = refl
 
 pub asked-is-sent : AskedIsSent
 asked-is-sent s store l es =

@@ -213,7 +213,7 @@ record Both (b : Bridge) : Type 0 where
 
 move-both : {h x : Held} {e : Event} → Move h e x → Sound h → Both (x .bridge)
 unfolding localCore configCompleted shut freed routedBridge
-move-both {h} (idle r s a l) v = record { fine = registers-fine (h .bridge) r (fine-of h v) (λ g. sym l ∙ g); young = young-of h v }
+move-both {h} (idle r a l) v = record { fine = registers-fine (h .bridge) r (fine-of h v) (λ g. sym l ∙ g); young = young-of h v }
 move-both {h} (missed r f l) v = record { fine = registers-fine (h .bridge) r (fine-of h v) (λ g. sym l ∙ g); young = young-of h v }
 move-both {h} (reads {q = q} {room = room} e) v = record {
   fine = accepted-read-fine (h .bridge) q room (fine-of h v) e;
@@ -288,14 +288,10 @@ tick-room h v =
     (expire-all (held (coreIn (withTicks (nextTick (h .bridge .core .ticks)) (h .bridge .core)) (h .bridge)) (h .store)) (clock-looked h v) tagCount .room)
 
 room-step : (h : Held) (e : Event) → Sound h → storeSize ≤ length (step h e .after .store)
-room-step h (event.read q room) v = v .room
-room-step h (event.write q bytes room) v = v .room
-room-step h (event.config a room) v = v .room
+room-step h (event.call c) v = v .room
 room-step h (event.completion i s) v = rw (completed-room h s (completionOf s) refl) (v .room)
 room-step h event.tick v = tick-room h v
 room-step h (event.link up) v = rw (link-room h up v) (v .room)
-room-step h (event.look k) v = v .room
-room-step h (event.release k) v = v .room
 
 -- ---- lists of events
 

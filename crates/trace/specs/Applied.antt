@@ -9,7 +9,7 @@ use Rattle.machine.specs.Memory.{areaSize, piecesOf, pieceOf, readRefusal}
 use Rattle.machine.specs.Config.{Access, accessOf, routeOf, goesOut, configRefusal}
 use Rattle.machine.specs.Completions.{storeSize, Held}
 use Rattle.machine.specs.Take.{looked}
-use Rattle.trace.specs.Events.{Event, read, config, completion, tick, link, look, release, step, run, start, seen}
+use Rattle.trace.specs.Events.{read, config, Event, call, completion, tick, link, look, release, step, run, start, seen}
 use Rattle.trace.specs.FarSide.{requests, paired, FarSide}
 use Rattle.trace.specs.Claims.{Answered, AnsweredOkay, Untaken, Until, sentFor, Bytes, ticks, ReadDeadline, ConfigDeadline, Steady, goodBytes, ReadOkay, anyGoodWord, ConfigOkay, LocalOkay, Left, Alike}
 use Rattle.trace.specs.Example.{settings, store, begun, four, ten, setBuses, onBus1, g1, sent, before, during, toConfig, events, tenBytes}
@@ -20,14 +20,14 @@ abbrev pub here : Held
 here = run begun before
 
 abbrev pub called : Held
-called = step here (read ten areaSize) .after
+called = step here (call (read ten areaSize)) .after
 
 abbrev pub there : Held
 there = run called during
 
 pub record AtTen : Type 0 where
   pub long : storeSize ≤ length store
-  pub far : FarSide sent begun (before ++ read ten areaSize ∷ during)
+  pub far : FarSide sent begun (before ++ call (read ten areaSize) ∷ during)
   pub taken : readRefusal (here .bridge) ten areaSize ≡ 0
   pub slot : freeSlot (here .bridge) ≡ 0
   pub untaken : Untaken 0 called during
@@ -54,10 +54,10 @@ abbrev pub atConfig : Held
 atConfig = run begun toConfig
 
 abbrev pub routed : Held
-routed = step atConfig (config onBus1 areaSize) .after
+routed = step atConfig (call (config onBus1 areaSize)) .after
 
 pub record AtWord : Type 0 where
-  pub far : FarSide sent begun (toConfig ++ config onBus1 areaSize ∷ completion 6 g1 ∷ [])
+  pub far : FarSide sent begun (toConfig ++ call (config onBus1 areaSize) ∷ completion 6 g1 ∷ [])
   pub taken : configRefusal (atConfig .bridge) onBus1 areaSize ≡ 0
   pub out : goesOut (routeOf (atConfig .bridge) onBus1) ≡ true
   pub young : ticks (completion 6 g1 ∷ []) < atConfig .bridge .settings .limit
@@ -77,7 +77,7 @@ WordEnds = ConfigDeadline → Until (Answered 8) 8 routed (tick ∷ tick ∷ [])
 -- ---- the local configuration write: it is answered OKAY at once
 
 abbrev pub toBuses : List Event
-toBuses = before ++ read ten areaSize ∷ during ++ look 0 ∷ release 0 ∷ []
+toBuses = before ++ call (read ten areaSize) ∷ during ++ call (look 0) ∷ call (release 0) ∷ []
 
 abbrev pub atBuses : Held
 atBuses = run begun toBuses
@@ -87,7 +87,7 @@ pub record AtLocal : Type 0 where
   pub stays : goesOut (routeOf (atBuses .bridge) setBuses) ≡ false
 
 abbrev pub LocalThere : Type 0
-LocalThere = LocalOkay → AnsweredOkay 8 (step atBuses (config setBuses areaSize) .after)
+LocalThere = LocalOkay → AnsweredOkay 8 (step atBuses (call (config setBuses areaSize)) .after)
 
 -- ---- the first read, to which nothing comes in time
 
@@ -95,16 +95,16 @@ abbrev pub up : Held
 up = run begun (link true ∷ [])
 
 abbrev pub first : Held
-first = step up (read four areaSize) .after
+first = step up (call (read four areaSize)) .after
 
 pub record AtFirst : Type 0 where
   pub taken : readRefusal (up .bridge) four areaSize ≡ 0
   pub slot : freeSlot (up .bridge) ≡ 0
   -- T ticks
-  pub late : up .bridge .settings .limit ≤ ticks (tick ∷ look 0 ∷ tick ∷ [])
+  pub late : up .bridge .settings .limit ≤ ticks (tick ∷ call (look 0) ∷ tick ∷ [])
 
 abbrev pub ReadEnds : Type 0
-ReadEnds = ReadDeadline → Until (Answered 0) 0 first (tick ∷ look 0 ∷ tick ∷ [])
+ReadEnds = ReadDeadline → Until (Answered 0) 0 first (tick ∷ call (look 0) ∷ tick ∷ [])
 
 -- ---- the bridge after the list and a link drop, its causes cleared; and another that has only been given its bus
 -- numbers, one tick after the start, with a longer store of other bytes
@@ -113,10 +113,10 @@ abbrev pub clearCauses : Access
 clearCauses = accessOf 0x138 true 0xF 0xFFFFFFFF
 
 abbrev pub old : Held
-old = run begun (events ++ link false ∷ config clearCauses areaSize ∷ release 8 ∷ [])
+old = run begun (events ++ link false ∷ call (config clearCauses areaSize) ∷ call (release 8) ∷ [])
 
 abbrev pub new : Held
-new = run (start settings (replicate 40000 9)) (tick ∷ config setBuses areaSize ∷ release 8 ∷ [])
+new = run (start settings (replicate 40000 9)) (tick ∷ call (config setBuses areaSize) ∷ call (release 8) ∷ [])
 
 pub record AtAlike : Type 0 where
   pub left-old : Left old

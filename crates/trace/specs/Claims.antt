@@ -21,7 +21,7 @@ use Rattle.machine.specs.Config.{Access, routeOf, goesOut, configRefusal}
 use Rattle.machine.specs.Verdict.{useful, configShape}
 use Rattle.machine.specs.Completions.{storeSize, Held, completionOf}
 use Rattle.machine.specs.Take.{stateOf, takeRefusal, looked, releaseStep}
-use Rattle.trace.specs.Events.{Event, read, write, config, completion, tick, link, look, release, step, run, start, seen}
+use Rattle.trace.specs.Events.{Call, read, write, config, look, release, Event, call, completion, tick, link, step, run, start, seen}
 use Rattle.trace.specs.FarSide.{bytesSent, requests, paired, carries, FarSide}
 
 -- ---- answered and taken
@@ -36,15 +36,18 @@ pub record AnsweredOkay (k : ℕ) (h : Held) : Type 0 where
   pub okay : releaseStep (h .bridge) (length (h .store)) k .answer .response ≡ Okay
 
 -- 'taken means released': an event that takes slot k
+abbrev pub takenBy : ℕ → Held → Call → Bool
+takenBy k h (read q room) = false
+takenBy k h (write q bs room) = false
+takenBy k h (config a room) = false
+takenBy k h (look j) = false
+takenBy k h (release j) = eqb j k && eqb (takeRefusal (h .bridge) (length (h .store)) j) 0
+
 abbrev pub takes : ℕ → Held → Event → Bool
-takes k h (read q room) = false
-takes k h (write q bs room) = false
-takes k h (config a room) = false
+takes k h (call c) = takenBy k h c
 takes k h (completion i s) = false
 takes k h tick = false
 takes k h (link up) = false
-takes k h (look j) = false
-takes k h (release j) = eqb j k && eqb (takeRefusal (h .bridge) (length (h .store)) j) 0
 
 -- no event of a list does
 abbrev pub Untaken : ℕ → Held → List Event → Type 0
@@ -69,12 +72,12 @@ abbrev pub Bytes : Type 0
 Bytes =
     (s : Settings) (store : List ℕ) → storeSize ≤ length store
     → (sent : ℕ → List (List ℕ)) (before : List Event) (q : Burst) (room : ℕ) (later : List Event)
-    → FarSide sent (start s store) (before ++ read q room ∷ later)
+    → FarSide sent (start s store) (before ++ call (read q room) ∷ later)
     → let h = run (start s store) before in
     readRefusal (h .bridge) q room ≡ 0
     → let k = freeSlot (h .bridge) in
-    let x = run (step h (read q room) .after) later in
-    Untaken k (step h (read q room) .after) later
+    let x = run (step h (call (read q room)) .after) later in
+    Untaken k (step h (call (read q room)) .after) later
     → AnsweredOkay k x
     → (looked (x .bridge) (x .store) k ≡ sentFor sent (requests (start s store) before) (h .bridge) q)
     × (length (looked (x .bridge) (x .store) k) ≡ lengthOf q)
@@ -82,14 +85,10 @@ Bytes =
 -- ---- the second claim: answered by the T-th tick
 
 abbrev pub isTick : Event → ℕ
-isTick (read q room) = 0
-isTick (write q bs room) = 0
-isTick (config a room) = 0
+isTick (call c) = 0
 isTick (completion i s) = 0
 isTick tick = 1
 isTick (link up) = 0
-isTick (look k) = 0
-isTick (release k) = 0
 
 abbrev pub ticks : List Event → ℕ
 ticks [] = 0
@@ -103,7 +102,7 @@ ReadDeadline =
     → let h = run (start s store) before in
     readRefusal (h .bridge) q room ≡ 0
     → h .bridge .settings .limit ≤ ticks later
-    → Until (Answered (freeSlot (h .bridge))) (freeSlot (h .bridge)) (step h (read q room) .after) later
+    → Until (Answered (freeSlot (h .bridge))) (freeSlot (h .bridge)) (step h (call (read q room)) .after) later
 
 abbrev pub ConfigDeadline : Type 0
 ConfigDeadline =
@@ -112,17 +111,13 @@ ConfigDeadline =
     → let h = run (start s store) before in
     configRefusal (h .bridge) a room ≡ 0
     → h .bridge .settings .limit ≤ ticks rest
-    → Until (Answered 8) 8 (step h (config a room) .after) rest
+    → Until (Answered 8) 8 (step h (call (config a room)) .after) rest
 
 abbrev pub isDown : Event → Bool
-isDown (read q room) = false
-isDown (write q bs room) = false
-isDown (config a room) = false
+isDown (call c) = false
 isDown (completion i s) = false
 isDown tick = false
 isDown (link up) = not up
-isDown (look k) = false
-isDown (release k) = false
 
 -- no event of the list takes the link down
 abbrev pub Steady : List Event → Type 0
@@ -153,7 +148,7 @@ abbrev pub ReadOkay : Type 0
 ReadOkay =
     (s : Settings) (store : List ℕ) → storeSize ≤ length store
     → (sent : ℕ → List (List ℕ)) (before : List Event) (q : Burst) (room : ℕ) (during : List Event)
-    → FarSide sent (start s store) (before ++ read q room ∷ during)
+    → FarSide sent (start s store) (before ++ call (read q room) ∷ during)
     → let h = run (start s store) before in
     readRefusal (h .bridge) q room ≡ 0
     → ticks during < h .bridge .settings .limit
@@ -161,7 +156,7 @@ ReadOkay =
     → ((j : ℕ) → j < piecesOf (h .bridge .settings .reads) q
     → goodBytes (h .bridge .settings .requester) (paired (requests (start s store) before + j) during)
     ≡ pieceOf (h .bridge .settings .reads) q j .length)
-    → Until (AnsweredOkay (freeSlot (h .bridge))) (freeSlot (h .bridge)) (step h (read q room) .after) during
+    → Until (AnsweredOkay (freeSlot (h .bridge))) (freeSlot (h .bridge)) (step h (call (read q room)) .after) during
 
 -- a good completion for a configuration access
 abbrev pub isGoodWord : ℕ → Bool → CompletionRead → Bool
@@ -179,14 +174,14 @@ abbrev pub ConfigOkay : Type 0
 ConfigOkay =
     (s : Settings) (store : List ℕ) → storeSize ≤ length store
     → (sent : ℕ → List (List ℕ)) (before : List Event) (a : Access) (room : ℕ) (during : List Event)
-    → FarSide sent (start s store) (before ++ config a room ∷ during)
+    → FarSide sent (start s store) (before ++ call (config a room) ∷ during)
     → let h = run (start s store) before in
     configRefusal (h .bridge) a room ≡ 0
     → goesOut (routeOf (h .bridge) a) ≡ true
     → ticks during < h .bridge .settings .limit
     → Steady during
     → anyGoodWord (h .bridge .settings .requester) (a .write) (paired (requests (start s store) before) during) ≡ true
-    → Until (AnsweredOkay 8) 8 (step h (config a room) .after) during
+    → Until (AnsweredOkay 8) 8 (step h (call (config a room)) .after) during
 
 -- an access that does not go out waits for no completion: it is answered OKAY at once
 abbrev pub LocalOkay : Type 0
@@ -196,7 +191,7 @@ LocalOkay =
     → let h = run (start s store) before in
     configRefusal (h .bridge) a room ≡ 0
     → goesOut (routeOf (h .bridge) a) ≡ false
-    → AnsweredOkay 8 (step h (config a room) .after)
+    → AnsweredOkay 8 (step h (call (config a room)) .after)
 
 -- ---- the third claim: two bridges alike
 

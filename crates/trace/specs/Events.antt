@@ -9,6 +9,7 @@ use Rattle.address.specs.declared.Settings.{Settings}
 use Rattle.ecam.specs.declared.Registers.{Registers}
 use Rattle.burst.specs.declared.Burst.{Burst}
 use Rattle.parts.specs.declared.Answer.{Answer}
+use Rattle.machine.specs.Bridge.{Bridge}
 use Rattle.machine.specs.State.{newBridge, registersOf}
 use Rattle.machine.specs.Memory.{readRefusal, readBytes, readStep, writeRefusal, writeBytes, writeStep}
 use Rattle.machine.specs.Config.{Access, configRefusal, configBytes, configStep}
@@ -16,17 +17,22 @@ use Rattle.machine.specs.Completions.{Held, held, completed, completeStep, plai
 use Rattle.machine.specs.Ticks.{ticked, tickStep, linked, linkStep}
 use Rattle.machine.specs.Take.{takeRefusal, looked, releaseStep}
 
--- the arguments of each call; of a lent sending area, its length. The number beside a completion is no part of it: it names
--- the request that the far side answers with it, and `step` does not see it
+-- what the bridge's user calls, with the arguments; of a lent sending area, its length. None of these brings a completion, ticks
+-- or changes the link: a new such call is one more case here, and the far side, time and the link do not see it
+pub data Call : Type 0 where
+  read : Burst → ℕ → Call
+  write : Burst → List ℕ → ℕ → Call
+  config : Access → ℕ → Call
+  look : ℕ → Call
+  release : ℕ → Call
+
+-- The number beside a completion is no part of it: it names the request that the far side answers with it, and `step` does not
+-- see it
 pub data Event : Type 0 where
-  read : Burst → ℕ → Event
-  write : Burst → List ℕ → ℕ → Event
-  config : Access → ℕ → Event
+  call : Call → Event
   completion : ℕ → List ℕ → Event
   tick : Event
   link : Bool → Event
-  look : ℕ → Event
-  release : ℕ → Event
 
 -- what an event shows: its answer, the bytes sent, and the look's bytes
 pub record Out : Type 0 where
@@ -46,23 +52,34 @@ shows h a sent part = record { after = h; out = record { answer = a; sent = sent
 abbrev pub sentBy : ℕ → List ℕ → List ℕ
 sentBy number bytes = cond (eqb number 0) bytes []
 
-abbrev pub step : Held → Event → Result
-step h (read q room) =
-    shows (held (readStep (h .bridge) q room .bridge) (h .store)) (readStep (h .bridge) q room .answer)
+-- a call leaves the store as it is: the bridge after it, and what it shows
+pub record Called : Type 0 where
+  pub bridge : Bridge
+  pub out : Out
+
+abbrev pub gives : Bridge → Answer → List ℕ → List ℕ → Called
+gives b a sent part = record { bridge = b; out = record { answer = a; sent = sent; part = part } }
+
+abbrev pub called : Held → Call → Called
+called h (read q room) =
+    gives (readStep (h .bridge) q room .bridge) (readStep (h .bridge) q room .answer)
     (sentBy (readRefusal (h .bridge) q room) (readBytes (h .bridge) q)) []
-step h (write q bytes room) =
-    shows (held (writeStep (h .bridge) q bytes room .bridge) (h .store)) (writeStep (h .bridge) q bytes room .answer)
+called h (write q bytes room) =
+    gives (writeStep (h .bridge) q bytes room .bridge) (writeStep (h .bridge) q bytes room .answer)
     (sentBy (writeRefusal (h .bridge) q (length bytes) room) (writeBytes (h .bridge .settings) q bytes room)) []
-step h (config a room) =
-    shows (held (configStep (h .bridge) a room .bridge) (h .store)) (configStep (h .bridge) a room .answer)
+called h (config a room) =
+    gives (configStep (h .bridge) a room .bridge) (configStep (h .bridge) a room .answer)
     (sentBy (configRefusal (h .bridge) a room) (configBytes (h .bridge) a)) []
+called h (look k) =
+    gives (h .bridge) (plain (takeRefusal (h .bridge) (length (h .store)) k)) [] (looked (h .bridge) (h .store) k)
+called h (release k) =
+    gives (releaseStep (h .bridge) (length (h .store)) k .bridge) (releaseStep (h .bridge) (length (h .store)) k .answer) [] []
+
+abbrev pub step : Held → Event → Result
+step h (call c) = record { after = held (called h c .bridge) (h .store); out = called h c .out }
 step h (completion i s) = shows (completed h s) (completeStep (h .bridge) (h .store) s .answer) [] []
 step h tick = shows (ticked h) (tickStep (h .bridge) (h .store) .answer) [] []
 step h (link up) = shows (linked up h) (linkStep up (h .bridge) (h .store) .answer) [] []
-step h (look k) = shows h (plain (takeRefusal (h .bridge) (length (h .store)) k)) [] (looked (h .bridge) (h .store) k)
-step h (release k) =
-    shows (held (releaseStep (h .bridge) (length (h .store)) k .bridge) (h .store))
-    (releaseStep (h .bridge) (length (h .store)) k .answer) [] []
 
 -- 'Each gets the bridge, and .. the same [store] .. as the last left them'
 abbrev pub run : Held → List Event → Held

@@ -15,7 +15,7 @@ use Rattle.machine.specs.State.{registersOf}
 use Rattle.machine.specs.Memory.{areaSize}
 use Rattle.machine.specs.Config.{Access, accessOf}
 use Rattle.machine.specs.Completions.{storeSize, Held}
-use Rattle.trace.specs.Events.{Event, read, config, completion, tick, link, look, release, step, run, start, Seen, seen}
+use Rattle.trace.specs.Events.{read, config, Event, call, completion, tick, link, look, release, step, run, start, Seen, seen}
 use Rattle.trace.specs.FarSide.{Ask, asked, FarSide}
 
 -- ---- where the list starts
@@ -127,24 +127,24 @@ sent i = getD lists i []
 abbrev pub before : List Event
 before =
     link true
-    ∷ read four areaSize  -- request 0, tag 0
+    ∷ call (read four areaSize)  -- request 0, tag 0
     ∷ tick
-    ∷ look 0  -- not answered yet
+    ∷ call (look 0)  -- not answered yet
     ∷ tick  -- times out: the tag rests
-    ∷ read eight areaSize  -- request 1, tag 1
+    ∷ call (read eight areaSize)  -- request 1, tag 1
     ∷ completion 1 b2  -- the first is lost
     ∷ completion 0 a1  -- late
-    ∷ look 0
-    ∷ release 0
+    ∷ call (look 0)
+    ∷ call (release 0)
     ∷ tick
     ∷ tick  -- times out
-    ∷ release 1
-    ∷ read four areaSize  -- request 2, tag 2
+    ∷ call (release 1)
+    ∷ call (read four areaSize)  -- request 2, tag 2
     ∷ completion 2 c1
-    ∷ release 0
-    ∷ read four areaSize  -- request 3, tag 2
+    ∷ call (release 0)
+    ∷ call (read four areaSize)  -- request 3, tag 2
     ∷ completion 3 d1
-    ∷ release 0
+    ∷ call (release 0)
     ∷ []
 
 -- requests 4 and 5, tags 2 and 3, are then sent for ten bytes; the second request's completion comes first
@@ -152,30 +152,30 @@ abbrev pub during : List Event
 during = completion 5 e3 ∷ completion 4 e1 ∷ completion 0 malformed ∷ completion 4 e2 ∷ []
 
 abbrev pub between : List Event
-between = look 0 ∷ release 0 ∷ config setBuses areaSize ∷ release 8 ∷ []
+between = call (look 0) ∷ call (release 0) ∷ call (config setBuses areaSize) ∷ call (release 8) ∷ []
 
 -- request 6, tag 2, is then sent for the configuration read
 abbrev pub after : List Event
 after =
     completion 6 g1
-    ∷ look 8
-    ∷ release 8
-    ∷ read four areaSize  -- request 7, tag 2
+    ∷ call (look 8)
+    ∷ call (release 8)
+    ∷ call (read four areaSize)  -- request 7, tag 2
     ∷ link false
     ∷ link true
-    ∷ look 0
-    ∷ release 0
-    ∷ read four areaSize  -- request 8, tag 0
+    ∷ call (look 0)
+    ∷ call (release 0)
+    ∷ call (read four areaSize)  -- request 8, tag 0
     ∷ completion 8 f1
-    ∷ look 0
-    ∷ release 0
+    ∷ call (look 0)
+    ∷ call (release 0)
     ∷ []
 
 abbrev pub toConfig : List Event
-toConfig = before ++ read ten areaSize ∷ during ++ between
+toConfig = before ++ call (read ten areaSize) ∷ during ++ between
 
 abbrev pub events : List Event
-events = toConfig ++ config onBus1 areaSize ∷ after
+events = toConfig ++ call (config onBus1 areaSize) ∷ after
 
 -- ---- what it shows
 

@@ -18,7 +18,7 @@ use Rattle.machine.specs.Memory.{pcieOf, piecesOf, pieceOf, readRefusal}
 use Rattle.machine.specs.Config.{Access, routeOf, goesOut, configRefusal}
 use Rattle.machine.specs.Verdict.{useful}
 use Rattle.machine.specs.Completions.{Held, completionOf, usefulBytes}
-use Rattle.trace.specs.Events.{Event, read, write, config, completion, tick, link, look, release, step}
+use Rattle.trace.specs.Events.{Call, read, write, config, look, release, Event, call, completion, tick, link, step}
 
 -- ---- the requests sent; 'no memory write'
 
@@ -41,19 +41,22 @@ askOf b q k =
     }
 
 -- the requests that an event sends; `Sent` ties them to its bytes
-abbrev pub asked : Held → Event → List Ask
-asked h (read q room) =
+abbrev pub askedBy : Held → Call → List Ask
+askedBy h (read q room) =
     cond (eqb (readRefusal (h .bridge) q room) 0)
     (map (askOf (h .bridge) q) (addresses 0 (piecesOf (h .bridge .settings .reads) q))) []
-asked h (write q bs room) = []
-asked h (config a room) =
+askedBy h (write q bs room) = []
+askedBy h (config a room) =
     cond (eqb (configRefusal (h .bridge) a room) 0 && goesOut (routeOf (h .bridge) a))
     (record { tag = lowest tagCount (h .bridge .core .free); wanted = word } ∷ []) []
+askedBy h (look k) = []
+askedBy h (release k) = []
+
+abbrev pub asked : Held → Event → List Ask
+asked h (call c) = askedBy h c
 asked h (completion i s) = []
 asked h tick = []
 asked h (link up) = []
-asked h (look k) = []
-asked h (release k) = []
 
 -- how many requests a list of events sends: they are numbered in turn, from 0
 abbrev pub requests : Held → List Event → ℕ
@@ -130,15 +133,11 @@ sending w (a ∷ rest) = sending (record { count = suc (w .count); live = record
 
 -- 'sends nothing across a link drop'
 abbrev pub dropping : Event → Wire → Wire
-dropping (read q room) w = w
-dropping (write q bs room) w = w
-dropping (config a room) w = w
+dropping (call c) w = w
 dropping (completion i s) w = w
 dropping tick w = w
 dropping (link true) w = w
 dropping (link false) w = record { count = w .count; live = [] }
-dropping (look k) w = w
-dropping (release k) w = w
 
 abbrev pub wireAfter : Wire → Held → Event → Wire
 wireAfter w h e = sending (dropping e w) (asked h e)
@@ -149,14 +148,10 @@ PairedBy w i (Header c) = List·Memᴰ (record { number = i; tag = c .tag }) (w 
 PairedBy w i Malformed = Unit
 
 abbrev pub Paired : Wire → Event → Type 0
-Paired w (read q room) = Unit
-Paired w (write q bs room) = Unit
-Paired w (config a room) = Unit
+Paired w (call c) = Unit
 Paired w (completion i s) = PairedBy w i (completionOf s)
 Paired w tick = Unit
 Paired w (link up) = Unit
-Paired w (look k) = Unit
-Paired w (release k) = Unit
 
 -- the completions that are paired with request i, in the order in which they come
 abbrev pub readable : CompletionRead → Bool
@@ -164,14 +159,10 @@ readable (Header c) = true
 readable Malformed = false
 
 abbrev pub pairedNow : ℕ → Event → List (List ℕ) → List (List ℕ)
-pairedNow i (read q room) l = l
-pairedNow i (write q bs room) l = l
-pairedNow i (config a room) l = l
+pairedNow i (call c) l = l
 pairedNow i (completion j s) l = cond (eqb i j && readable (completionOf s)) (s ∷ l) l
 pairedNow i tick l = l
 pairedNow i (link up) l = l
-pairedNow i (look k) l = l
-pairedNow i (release k) l = l
 
 abbrev pub paired : ℕ → List Event → List (List ℕ)
 paired i [] = []

@@ -22,7 +22,7 @@ use Rattle.machine.specs.Verdict.{causeResponse}
 use Rattle.machine.specs.Completions.{storeSize, Held, completionOf, verdictOf}
 use Rattle.machine.specs.Ticks.{nextTick, isOld}
 use Rattle.machine.specs.Take.{releaseStep}
-use Rattle.trace.specs.Events.{Event, read, write, config, completion, tick, link, look, release, step, run, start}
+use Rattle.trace.specs.Events.{read, Event, call, completion, tick, link, step, run, start}
 use Rattle.trace.specs.Claims.{Answered, Untaken, Steady}
 
 -- a failure: which piece of the burst, and why
@@ -71,14 +71,10 @@ module _ (limit a k : ℕ) where
   tickFails b (suc n) = tickFails b n ++ cond (isOld b n && eqb (ownerOf b n) k) (failing (placeOf b n) Timeout) []
 
   abbrev pub failsBy : Held → Event → List Failure
-  failsBy h (read q room) = []
-  failsBy h (write q bs room) = []
-  failsBy h (config x room) = []
+  failsBy h (call x) = []
   failsBy h (completion i s) = completionFails (h .bridge) (completionOf s)
   failsBy h tick = tickFails (coreIn (withTicks (nextTick (h .bridge .core .ticks)) (h .bridge .core)) (h .bridge)) tagCount
   failsBy h (link up) = []
-  failsBy h (look j) = []
-  failsBy h (release j) = []
 
   abbrev pub failures : Held → List Event → List Failure
   failures h [] = []
@@ -92,7 +88,7 @@ FirstFailure =
     → let h = run (start s store) before in
     readRefusal (h .bridge) q room ≡ 0
     → let k = freeSlot (h .bridge) in
-    let y = step h (read q room) .after in
+    let y = step h (call (read q room)) .after in
     Untaken k y later
     → Steady later
     → getD (run y later .bridge .cause) k 0
@@ -106,7 +102,7 @@ FirstFailureGives =
     → let h = run (start s store) before in
     readRefusal (h .bridge) q room ≡ 0
     → let k = freeSlot (h .bridge) in
-    let y = step h (read q room) .after in
+    let y = step h (call (read q room)) .after in
     let x = run y later in
     Untaken k y later
     → Steady later

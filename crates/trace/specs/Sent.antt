@@ -11,7 +11,7 @@ use Rattle.machine.specs.Bridge.{Bridge}
 use Rattle.machine.specs.Memory.{memoryRequest}
 use Rattle.machine.specs.Config.{Access, routeOf, routedRequest, payloadOf}
 use Rattle.machine.specs.Completions.{storeSize, Held}
-use Rattle.trace.specs.Events.{Event, read, write, config, completion, tick, link, look, release, step, run, start}
+use Rattle.trace.specs.Events.{Call, read, write, config, look, release, Event, call, completion, tick, link, step, run, start}
 use Rattle.trace.specs.FarSide.{Wanted, bytes, word, Ask, asked}
 
 -- the header of a request for bytes; that of a configuration word needs its access
@@ -28,25 +28,28 @@ wordPacket b a x =
     requestBytes (routedRequest (routeOf b a) a (b .settings .requester) (x .tag)) ++ payloadOf (a .write) (a .word)
 
 -- posted: a write sends packets that nothing answers
+abbrev pub writes : Call → Bool
+writes (read q room) = false
+writes (write q bs room) = true
+writes (config a room) = false
+writes (look k) = false
+writes (release k) = false
+
 abbrev pub isWrite : Event → Bool
-isWrite (read q room) = false
-isWrite (write q bs room) = true
-isWrite (config a room) = false
+isWrite (call c) = writes c
 isWrite (completion i s) = false
 isWrite tick = false
 isWrite (link up) = false
-isWrite (look k) = false
-isWrite (release k) = false
 
 -- what each event sends: a read one header for each of its requests, a configuration access the packet of its one request;
 -- refused calls and local accesses ask nothing
 pub record SendsAsked (h : Held) : Type 0 where
   pub read :
       (q : Burst) (room : ℕ)
-      → step h (read q room) .out .sent ≡ flatMap (headerOf (h .bridge)) (asked h (read q room))
+      → step h (call (read q room)) .out .sent ≡ flatMap (headerOf (h .bridge)) (asked h (call (read q room)))
   pub config :
       (a : Access) (room : ℕ)
-      → step h (config a room) .out .sent ≡ flatMap (wordPacket (h .bridge) a) (asked h (config a room))
+      → step h (call (config a room)) .out .sent ≡ flatMap (wordPacket (h .bridge) a) (asked h (call (config a room)))
   pub nothing : (e : Event) → isWrite e ≡ false → asked h e ≡ [] → step h e .out .sent ≡ []
 
 abbrev pub AskedIsSent : Type 0
