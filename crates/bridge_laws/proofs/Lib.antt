@@ -1,5 +1,8 @@
 -- The rows of the state.
 pub mod Rows
+pub mod Parts
+pub mod Effects
+pub mod Turns
 -- A fresh bridge, configuration accesses, taking an answer.
 pub mod FreshLaws
 pub mod ConfigLaws

@@ -1,7 +1,9 @@
 -- What is proved of the bridge's definitions, and the worked examples on them.
 pub mod RowLaws
+pub mod Rows
 pub mod MemoryLaws
 pub mod ConfigLaws
+pub mod Effects
 pub mod CompletionLaws
 pub mod TickLaws
 pub mod PieceLaws
