@@ -1,6 +1,7 @@
 -- The rows of the state.
 pub mod Rows
 pub mod Parts
+pub mod Cores
 pub mod Effects
 pub mod Turns
 -- A fresh bridge, configuration accesses, taking an answer.
