@@ -3,6 +3,7 @@ use Prim.Native.Nat.{ℕ, zero, suc, _+_, _%_, _*_, _≤_, _<_}
 use mathlib.Core.Path.{_≡_}
 use mathlib.Core.Logic.{_⊎_}
 use mathlib.Core.List.{List, [], _∷_, _++_, flatMap}
+use mathlib.Core.Option.{Option, none, some}
 use mathlib.Core.Bool.{Bool, true, false, cond, not, _&&_}
 use lib.ListN.{length}
 use lib.Dec.{eqb, ltb}
@@ -21,7 +22,7 @@ use Rattle.machine.specs.Config.{Access, routeOf, goesOut, configRefusal}
 use Rattle.machine.specs.Verdict.{useful, configShape}
 use Rattle.machine.specs.Completions.{storeSize, Held, completionOf}
 use Rattle.machine.specs.Take.{stateOf, takeRefusal, looked, releaseStep}
-use Rattle.trace.specs.Events.{Call, read, write, config, look, release, Event, call, completion, tick, link, step, run, start, seen}
+use Rattle.trace.specs.Events.{read, config, releases, Event, call, completion, tick, link, step, run, start, seen}
 use Rattle.trace.specs.FarSide.{bytesSent, requests, paired, carries, FarSide}
 
 -- ---- answered and taken
@@ -36,15 +37,12 @@ pub record AnsweredOkay (k : ℕ) (h : Held) : Type 0 where
   pub okay : releaseStep (h .bridge) (length (h .store)) k .answer .response ≡ Okay
 
 -- 'taken means released': an event that takes slot k
-abbrev pub takenBy : ℕ → Held → Call → Bool
-takenBy k h (read q room) = false
-takenBy k h (write q bs room) = false
-takenBy k h (config a room) = false
-takenBy k h (look j) = false
-takenBy k h (release j) = eqb j k && eqb (takeRefusal (h .bridge) (length (h .store)) j) 0
+abbrev pub takenBy : ℕ → Held → Option ℕ → Bool
+takenBy k h none = false
+takenBy k h (some j) = eqb j k && eqb (takeRefusal (h .bridge) (length (h .store)) j) 0
 
 abbrev pub takes : ℕ → Held → Event → Bool
-takes k h (call c) = takenBy k h c
+takes k h (call c) = takenBy k h (releases c)
 takes k h (completion i s) = false
 takes k h tick = false
 takes k h (link up) = false

@@ -2,7 +2,8 @@
 -- bridge's methods cite.
 use Prim.Native.Nat.{ℕ}
 use mathlib.Core.List.{List, [], _∷_}
-use mathlib.Core.Bool.{Bool, cond}
+use mathlib.Core.Option.{Option, none, some}
+use mathlib.Core.Bool.{Bool, true, false, cond}
 use lib.ListN.{length}
 use lib.Dec.{eqb}
 use Rattle.address.specs.declared.Settings.{Settings}
@@ -25,6 +26,22 @@ pub data Call : Type 0 where
   config : Access → ℕ → Call
   look : ℕ → Call
   release : ℕ → Call
+
+-- posted: a write sends packets that nothing answers
+abbrev pub posts : Call → Bool
+posts (read q room) = false
+posts (write q bytes room) = true
+posts (config a room) = false
+posts (look k) = false
+posts (release k) = false
+
+-- 'taken means released': the slot that a call would free
+abbrev pub releases : Call → Option ℕ
+releases (read q room) = none
+releases (write q bytes room) = none
+releases (config a room) = none
+releases (look k) = none
+releases (release k) = some k
 
 -- The number beside a completion is no part of it: it names the request that the far side answers with it, and `step` does not
 -- see it

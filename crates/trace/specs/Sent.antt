@@ -11,7 +11,7 @@ use Rattle.machine.specs.Bridge.{Bridge}
 use Rattle.machine.specs.Memory.{memoryRequest}
 use Rattle.machine.specs.Config.{Access, routeOf, routedRequest, payloadOf}
 use Rattle.machine.specs.Completions.{storeSize, Held}
-use Rattle.trace.specs.Events.{Call, read, write, config, look, release, Event, call, completion, tick, link, step, run, start}
+use Rattle.trace.specs.Events.{read, config, posts, Event, call, completion, tick, link, step, run, start}
 use Rattle.trace.specs.FarSide.{Wanted, bytes, word, Ask, asked}
 
 -- the header of a request for bytes; that of a configuration word needs its access
@@ -28,15 +28,8 @@ wordPacket b a x =
     requestBytes (routedRequest (routeOf b a) a (b .settings .requester) (x .tag)) ++ payloadOf (a .write) (a .word)
 
 -- posted: a write sends packets that nothing answers
-abbrev pub writes : Call → Bool
-writes (read q room) = false
-writes (write q bs room) = true
-writes (config a room) = false
-writes (look k) = false
-writes (release k) = false
-
 abbrev pub isWrite : Event → Bool
-isWrite (call c) = writes c
+isWrite (call c) = posts c
 isWrite (completion i s) = false
 isWrite tick = false
 isWrite (link up) = false
