@@ -3,18 +3,23 @@
 # refused then, or that it must still pass. The copy has no code of the bridge, whose contracts would refuse a wrong
 # definition first: it has the definitions, and of the proofs those that `demand3` rests on.
 #
-#   ./wrong_machines.sh [NAME...]    all, or the named ones. Exit status 1: something is not as it must be.
+#   crates/trace/wrong.sh [NAME...]    all, or the named ones. Exit status 1: something is not as it must be.
 #
-# It takes the proved lower crates of target/, and leaves each log in target/wrong/.
+# It takes the proved lower crates of target/, proving them first where they are not, and leaves each log in target/wrong/.
 set -euo pipefail
-cd "$(dirname "$0")"
-jobs=2
+cd "$(dirname "$0")/../.."
+jobs=${WRONG_JOBS:-2}
 lower='common refusals bits tags tlp address burst ecam packets'
 logs=$PWD/target/wrong
 room=$(mktemp -d)
 trap 'rm -rf "$room"' EXIT
 mkdir -p "$logs"
-rt check $lower >"$logs/lower.log" 2>&1 || { echo "the lower crates are not proved: see $logs/lower.log"; exit 1; }
+for c in $lower; do
+    [ -e "target/rlib/$c.rlib" ] && [ -e "target/stamp/$c" ] || {
+        rt check $lower >"$logs/lower.log" 2>&1 || { echo "the lower crates are not proved: see $logs/lower.log"; exit 1; }
+        break
+    }
+done
 
 # ---- the copy without code
 
@@ -26,14 +31,19 @@ types_only() { # LIB
         /^}/ { inside = 0 }' "$1"
 }
 
-# the modules of a crate's proofs/ that those in the file rest on, added to it
+# the modules of a crate's proofs/ that some lines use, as paths of files below it
+named() { # LIBRARY CRATE, lines on standard input
+    sed -n "s/^use $1\.proofs\.\([A-Za-z0-9.]*\).*/\1/p" | sed 's/\.$//' | tr . / | sort -u | while read -r m; do
+        [ -f "crates/$2/proofs/$m.antt" ] && echo "$m"
+    done
+}
+
+# those that the modules in a file rest on, added to it
 reached() { # CRATE FILE
-    local n=0 m
+    local n=0
     while [ "$(wc -l <"$2")" -ne "$n" ]; do
         n=$(wc -l <"$2")
-        for m in $(cat "$2"); do
-            sed -n "s/^use Rattle·$1·proofs\.proofs\.\([A-Za-z0-9]*\).*/\1/p" "crates/$1/proofs/$m.antt"
-        done | sort -u - "$2" -o "$2"
+        sed "s|.*|crates/$1/proofs/&.antt|" "$2" | xargs cat | named "Rattle·$1·proofs" "$1" | sort -u - "$2" -o "$2"
     done
 }
 
@@ -66,18 +76,30 @@ done
     sed -i '/Example\|Applied/d' crates/trace/specs/Lib.antt
     echo Demand3 >"$room/trace"
     reached trace "$room/trace"
-    sed -n 's/^use Rattle\.bridge_laws\.proofs\.\([A-Za-z0-9]*\).*/\1/p' $(sed 's|.*|crates/trace/proofs/&.antt|' "$room/trace") | sort -u >"$room/bridge_laws"
+    sed 's|.*|crates/trace/proofs/&.antt|' "$room/trace" | xargs cat >"$room/used"
+    named Rattle.bridge_laws bridge_laws <"$room/used" >"$room/bridge_laws"
     reached bridge_laws "$room/bridge_laws"
-    sed -n 's/^use Rattle\.machine\.proofs\.\([A-Za-z0-9]*\).*/\1/p' $(sed 's|.*|crates/trace/proofs/&.antt|' "$room/trace") \
-        $(sed 's|.*|crates/bridge_laws/proofs/&.antt|' "$room/bridge_laws") | sort -u >"$room/machine"
+    sed 's|.*|crates/bridge_laws/proofs/&.antt|' "$room/bridge_laws" | xargs cat >>"$room/used"
+    named Rattle.machine machine <"$room/used" >"$room/machine"
     reached machine "$room/machine"
     for c in trace bridge_laws machine; do
-        for f in crates/$c/proofs/*.antt; do
-            m=$(basename "$f" .antt)
-            grep -Fxq "$m" "$room/$c" || [ "$m" = Lib ] || rm "$f"
+        # a folder's own file declares the modules in it
+        sed -n 's|/.*||p' "$room/$c" | sort -u >"$room/folders"
+        (cd "crates/$c/proofs" && find . -name '*.antt' | sed 's|^\./||; s|\.antt$||') | while read -r m; do
+            if [ "$m" = Lib ] || grep -Fxq "$m" "$room/folders"; then
+                file=crates/$c/proofs/$m.antt
+                from=''
+                [ "$m" = Lib ] || from=$m/
+                sed -n 's/^pub mod //p' "$file" | while read -r k; do
+                    if grep -Fxq "$from$k" "$room/$c" || { [ "$m" = Lib ] && grep -Fxq "$k" "$room/folders"; }; then
+                        echo "pub mod $k"
+                    fi
+                done >"$room/lib"
+                mv "$room/lib" "$file"
+            elif ! grep -Fxq "$m" "$room/$c"; then
+                rm "crates/$c/proofs/$m.antt"
+            fi
         done
-        sed -n 's/^pub mod //p' "crates/$c/proofs/Lib.antt" | grep -Fxf "$room/$c" | sed 's/^/pub mod /' >"$room/lib"
-        mv "$room/lib" "crates/$c/proofs/Lib.antt"
     done
 )
 
@@ -144,7 +166,7 @@ list() { uniq | paste -s -d , | sed 's/,/, /g'; }
 
 # Prints a wrong machine's line, and leaves its word in the room.
 try() { # NAME
-    local edit=$PWD/wrong/$1.edit dir=$room/$1 wants got began=$SECONDS
+    local edit=$PWD/crates/trace/wrong/$1.edit dir=$room/$1 wants got began=$SECONDS
     echo failed >"$room/$1.res"
     wants=$(sed -n 's/^expect: //p' "$edit")
     cp -R "$base" "$dir"
@@ -165,7 +187,7 @@ echo "no edit: $got ($SECONDS s)"
 [ "$got" = proved ] || exit 1
 
 names=$*
-[ -n "$names" ] || names=$(basename -a -s .edit wrong/*.edit)
+[ -n "$names" ] || names=$(basename -a -s .edit crates/trace/wrong/*.edit)
 bad=0
 set -- $names
 while [ $# -gt 0 ]; do
