@@ -20,7 +20,8 @@ gate=$!
 built() { [ "$(cat target/log/traffic.res 2>/dev/null)" = built ]; }
 until built || ! kill -0 "$gate" 2>/dev/null; do sleep 1; done
 
-# The same traffic, right and damaged, on the second program and on the proved bridge.
+# The same traffic, right and damaged, on the second program and on the proved bridge; and wrong machines, which take the
+# lower crates that this run has proved.
 same=1 found='the gate built no player'
 if ! built; then
     same=0
@@ -30,13 +31,14 @@ else
     for trial in target/bin/traffic './play.sh --status'; do
         said=$(second/target/release/failing $trial 2>&1) || { same=0 found="failing $trial: $said"; }
     done
+    wrong=$(crates/trace/wrong.sh 2>&1) || { same=0 found="wrong machines: $wrong"; }
 fi
 status=0
 wait "$gate" || status=$?
 
 # A difference is printed with its first event, and its file is made smaller.
 if [ "$same" -eq 0 ]; then
-    echo "the player differs, or takes a failure in silence: $found"
+    echo "the player differs or takes a failure in silence, or demand 3 does not refuse a wrong machine: $found"
     for f in *.traffic; do
         second/target/release/shrink second/target/release/play target/bin/traffic "$f" || true
     done
