@@ -4,6 +4,7 @@ pub mod Parts
 pub mod Cores
 pub mod Effects
 pub mod Turns
+pub mod EachRow
 -- A fresh bridge, configuration accesses, taking an answer.
 pub mod FreshLaws
 pub mod ConfigLaws

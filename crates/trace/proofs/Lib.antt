@@ -30,7 +30,8 @@ pub mod Finished
 pub mod Bytes
 pub mod Tracks
 pub mod Failing
-pub mod FailingSteps
+pub mod FailingTick
+pub mod FailingReads
 pub mod FirstFailure
 pub mod AlikeTables
 pub mod AlikeTwin
