@@ -2,9 +2,9 @@
 use Prim.Native.Nat.{ℕ}
 use mathlib.Core.Path.{_≡_, refl}
 use mathlib.Core.Bool.{Bool, true, false, cond}
-use lib.Dec.{eqb}
 use Rattle.ecam.specs.declared.Registers.{Registers}
-use Rattle.ecam.specs.Registers.{writeBuses, writeDisable, withDecode, cleared, withMask, masked, localWrite, localRead}
+use Rattle.ecam.specs.Registers.{localWrite, localRead}
+use Rattle.ecam.proofs.Writes.{write-only-named}
 use Rattle.parts.specs.declared.Core.{Core}
 use Rattle.parts.specs.Answers.{changed}
 use Rattle.refusals.specs.Table.{Change, keeps, sets, changeOf}
@@ -34,20 +34,8 @@ refusal-core n c = changed-core (changeOf n) c
 
 -- ---- a local access
 
-link-by : (x y z w : Bool) (r a b c d : Registers) → a .link ≡ r .link → b .link ≡ r .link → c .link ≡ r .link → d .link ≡ r .link
-    → cond x a (cond y b (cond z c (cond w d r))) .link ≡ r .link
-link-by true y z w r a b c d p q s t = p
-link-by false true z w r a b c d p q s t = q
-link-by false false true w r a b c d p q s t = s
-link-by false false false true r a b c d p q s t = t
-link-by false false false false r a b c d p q s t = refl
-
-local-link : (r : Registers) (w s d : ℕ) → localWrite r w s d .link ≡ r .link
-unfolding localWrite writeBuses writeDisable
-local-link r w s d = link-by (eqb w 0x018) (eqb w 0x134) (eqb w 0x138) (eqb w 0x13C) r (writeBuses r s d) (writeDisable r s d) (withDecode r (cleared (r .decode) s d)) (withMask r (masked (r .mask) s d)) refl refl refl refl
-
 write-link : (x : Bool) (r : Registers) (w s d : ℕ) → cond x (localWrite r w s d) r .link ≡ r .link
-write-link true r w s d = local-link r w s d
+write-link true r w s d = write-only-named r w s d .link
 write-link false r w s d = refl
 
 -- registers, but not the link, and the configuration slot, which is finished as OKAY
