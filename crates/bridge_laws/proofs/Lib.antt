@@ -5,6 +5,7 @@ pub mod Cores
 pub mod Effects
 pub mod Turns
 pub mod EachRow
+pub mod ReadTurns
 -- A fresh bridge, configuration accesses, taking an answer.
 pub mod FreshLaws
 pub mod ConfigLaws

@@ -1,17 +1,17 @@
--- The pieces of a burst, joined: the byte that each address has, and the bytes of all.
-use Prim.Native.Nat.{ℕ, zero, suc, _+_, _-_, _/_, _≤_, _<_}
+-- The pieces of a burst: no byte lies in two of them, and their bytes, joined, are the burst's.
+use Prim.Native.Nat.{ℕ, zero, suc, _+_, _-_, _/_, _<_}
 use mathlib.Core.Path.{_≡_, refl, sym, ap, _∙_}
-use mathlib.Core.List.{List, [], _∷_, _++_, map, flatMap}
+use mathlib.Core.List.{List, [], _∷_, _++_, map, map-append, flatMap}
 use native.Mathlib.Omega.{arith}
 use native.Mathlib.Nat.{add-zero}
 use lib.ListN.{length, getD}
 use Rattle.burst.specs.declared.Piece.{Piece}
 use Rattle.burst.specs.Pieces.{pieceCount, pieceAt, addresses, pieces, bytesOf}
 use Rattle.burst.proofs.Pieces.{piece-in-block}
-use Rattle.burst.proofs.Tiling.{pieces-tile}
+use Rattle.burst.proofs.Tiling.{pieces-tile, piece-within}
 
 -- a list that has at each place what f gives for its address
-pub listed : (f : ℕ → ℕ) (a n : ℕ) (s : List ℕ) → length s ≡ n → ((y : ℕ) → y < n → getD s y 0 ≡ f (a + y)) → s ≡ map f (addresses a n)
+listed : (f : ℕ → ℕ) (a n : ℕ) (s : List ℕ) → length s ≡ n → ((y : ℕ) → y < n → getD s y 0 ≡ f (a + y)) → s ≡ map f (addresses a n)
 unfolding addresses
 listed f a zero [] e g = refl
 listed f a zero (x ∷ s) e g = absurd (omega arith)
@@ -21,49 +21,37 @@ listed f a (suc n) (x ∷ s) e g =
     let r = listed f (suc a) n s (omega arith) (λ y h. let q : a + suc y ≡ suc a + y = omega arith in g (suc y) (omega arith) ∙ ap f q) in
     ap (λ (v : ℕ). v ∷ s) z ∙ ap (λ (v : List ℕ). f a ∷ v) r
 
-map-join : (f : ℕ → ℕ) (s t : List ℕ) → map f (s ++ t) ≡ map f s ++ map f t
-map-join f [] t = refl
-map-join f (x ∷ s) t = ap (λ (v : List ℕ). f x ∷ v) (map-join f s t)
-
-map-flat : {A : Type 0} (f : ℕ → ℕ) (g : A → List ℕ) (l : List A) → map f (flatMap g l) ≡ flatMap (λ (p : A). map f (g p)) l
-unfolding flatMap
-map-flat f g [] = refl
-map-flat f g (p ∷ l) = map-join f (g p) (flatMap g l) ∙ ap (λ (v : List ℕ). map f (g p) ++ v) (map-flat f g l)
-
-flat-map : {A : Type 0} (g : A → List ℕ) (f : ℕ → A) (l : List ℕ) → flatMap g (map f l) ≡ flatMap (λ (j : ℕ). g (f j)) l
-unfolding flatMap
-flat-map g f [] = refl
-flat-map g f (j ∷ l) = ap (λ (v : List ℕ). g (f j) ++ v) (flat-map g f l)
-
-flat-same : (f g : ℕ → List ℕ) (s n : ℕ) → ((j : ℕ) → s ≤ j → j < s + n → f j ≡ g j) → flatMap f (addresses s n) ≡ flatMap g (addresses s n)
+-- what f gives for the bytes of pieces in turn
+map-pieces : (f : ℕ → ℕ) (p : ℕ → Piece) (part : ℕ → List ℕ) (s n : ℕ) → ((j : ℕ) → j < s + n → map f (bytesOf (p j)) ≡ part j)
+    → map f (flatMap bytesOf (map p (addresses s n))) ≡ flatMap part (addresses s n)
 unfolding flatMap addresses
-flat-same f g s zero h = refl
-flat-same f g s (suc n) h =
-    ap (λ (v : List ℕ). v ++ flatMap f (addresses (suc s) n)) (h s (omega arith) (omega arith))
-    ∙ ap (λ (v : List ℕ). g s ++ v) (flat-same f g (suc s) n (λ j x y. h j (omega arith) (omega arith)))
+map-pieces f p part s zero h = refl
+map-pieces f p part s (suc n) h =
+    let rest = flatMap bytesOf (map p (addresses (suc s) n)) in
+    map-append f (bytesOf (p s)) rest
+    ∙ (ap (λ (v : List ℕ). v ++ map f rest) (h s (omega arith))
+    ∙ ap (λ (v : List ℕ). part s ++ v) (map-pieces f p part (suc s) n (λ j l. h j (omega arith))))
 
--- n bytes from a on, cut at multiples of l; piece j has the bytes `part j`
-module _ (l a n : ℕ) (pos : 0 < l) (part : ℕ → List ℕ) where
-  -- the byte at address y, which lies in one piece
-  unfoldable pub byteAt : ℕ → ℕ
-  byteAt y = getD (part (y / l - a / l)) (y - pieceAt l a n (y / l - a / l) .first) 0
+-- n bytes from a on, cut at multiples of l
+module _ (l a n : ℕ) (pos : 0 < l) where
+  pub one-piece : (i j x y : ℕ) → x < pieceAt l a n i .length → y < pieceAt l a n j .length → pieceAt l a n i .first + x ≡ pieceAt l a n j .first + y → i ≡ j
+  one-piece i j x y f g e =
+      let p = piece-in-block l a n i pos (pieceAt l a n i .first + x) (omega arith) (omega arith) in
+      let q = piece-in-block l a n j pos (pieceAt l a n j .first + y) (omega arith) (omega arith) in
+      let z = ap (λ (v : ℕ). v / l) e in
+      omega arith
 
-  pub byte-of : (j x : ℕ) → x < pieceAt l a n j .length → byteAt (pieceAt l a n j .first + x) ≡ getD (part j) x 0
-  unfolding byteAt
-  byte-of j x h =
-      let f = pieceAt l a n j .first in
-      let b = piece-in-block l a n j pos (f + x) (omega arith) (omega arith) in
-      let z : (f + x) / l - a / l ≡ j = omega arith in
-      let q : f + x - f ≡ x = omega arith in
-      ap (λ (i : ℕ). getD (part i) (f + x - pieceAt l a n i .first) 0) z ∙ ap (λ (i : ℕ). getD (part j) i 0) q
-
-  pub joined : (s : List ℕ) → length s ≡ n → ((y : ℕ) → y < n → getD s y 0 ≡ byteAt (a + y)) → ((j : ℕ) → j < pieceCount l a n → length (part j) ≡ pieceAt l a n j .length)
+  -- a list that has the bytes of each part at the part's piece
+  pub joined : (part : ℕ → List ℕ) (s : List ℕ) → length s ≡ n → ((j : ℕ) → j < pieceCount l a n → length (part j) ≡ pieceAt l a n j .length)
+      → ((j x : ℕ) → j < pieceCount l a n → x < pieceAt l a n j .length → getD s (pieceAt l a n j .first - a + x) 0 ≡ getD (part j) x 0)
       → s ≡ flatMap part (addresses 0 (pieceCount l a n))
   unfolding pieces
-  joined s e g w =
-      let whole = pieces l a n in
-      listed byteAt a n s e g
-      ∙ (ap (map byteAt) (sym (pieces-tile l a n pos))
-      ∙ (map-flat byteAt bytesOf whole
-      ∙ (flat-map (λ (p : Piece). map byteAt (bytesOf p)) (pieceAt l a n) (addresses 0 (pieceCount l a n))
-      ∙ flat-same (λ (j : ℕ). map byteAt (bytesOf (pieceAt l a n j))) part 0 (pieceCount l a n) (λ j x y. sym (listed byteAt (pieceAt l a n j .first) (pieceAt l a n j .length) (part j) (w j (omega arith)) (λ i h. sym (byte-of j i h)))))))
+  joined part s e w g =
+      let f : ℕ → ℕ = λ y. getD s (y - a) 0 in
+      let at : (u v : ℕ) → u ≡ v → getD s u 0 ≡ getD s v 0 = λ u v z. ap (λ (y : ℕ). getD s y 0) z in
+      listed f a n s e (λ y h. at y (a + y - a) (omega arith))
+      ∙ (ap (map f) (sym (pieces-tile l a n pos))
+      ∙ map-pieces f (pieceAt l a n) part 0 (pieceCount l a n) (λ j h.
+      let k : j < pieceCount l a n = omega arith in
+      let i = piece-within l a n j pos k in
+      sym (listed f (pieceAt l a n j .first) (pieceAt l a n j .length) (part j) (w j k) (λ x m. sym (g j x k m) ∙ at (pieceAt l a n j .first - a + x) (pieceAt l a n j .first + x - a) (omega arith)))))

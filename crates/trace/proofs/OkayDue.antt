@@ -1,5 +1,4 @@
--- What is due for the open tags of an access, of the completions still to come, event by event. `P` says what is due for a tag,
--- `C` what the answer so far must be: once for memory reads and configuration accesses.
+-- What is due for the open tags of an access, of the completions still to come, event by event.
 use Prim.Native.Nat.{ℕ, _%_, _≤_, _<_}
 use mathlib.Core.Path.{_≡_, refl, sym, ap, _∙_, subst}
 use mathlib.Core.Logic.{_≢_}
@@ -7,175 +6,192 @@ use mathlib.Core.List.{List, _∷_}
 use mathlib.Core.Bool.{Bool, true, false}
 use native.Mathlib.Omega.{arith}
 use native.Mathlib.Decide.{ℕ-discrete}
-use lib.ListN.{length, drop}
+use lib.ListN.{drop}
 use lib.Dec.{eqb}
 use Rattle.tlp.specs.declared.completion.Completion.{Completion}
 use Rattle.tlp.specs.declared.completion.CompletionRead.{CompletionRead}
 use Rattle.tlp.specs.declared.completion.CompletionRead.the-variants.{Header, Malformed}
-use Rattle.machine.specs.Bridge.{Bridge}
+use Rattle.address.specs.declared.Settings.{Settings}
+use Rattle.parts.specs.declared.Core.{Core}
+use Rattle.parts.specs.declared.ConfigSlot.{ConfigSlot}
 use Rattle.verdict.specs.declared.Verdict.{Verdict}
 use Rattle.verdict.specs.declared.Verdict.the-variants.{Unexpected}
-use Rattle.machine.specs.State.{tagCount, withRegisters, coreIn, missingOf, ownerOf, Open, isWrite}
+use Rattle.machine.specs.State.{Bridge, Tag, tagAt, missingOf, ownerOf, nextAddress, failureOf, Open, isWrite, configWrite, withRegisters, coreIn}
 use Rattle.machine.specs.Verdict.{memoryVerdict, configVerdict}
-use Rattle.machine.specs.Completions.{Held, held, memoryCompleted, configCompleted, nextAddress, verdictOf, completionOf, isUnexpected}
+use Rattle.machine.specs.Completions.{Held, configCompleted, verdictOf, completionOf}
 use Rattle.machine.specs.Ticks.{linkIn}
 use Rattle.machine.specs.Take.{stateOf}
 use Rattle.machine.proofs.Judging.{never}
+use Rattle.bridge_laws.specs.Effects.{Serves}
+use Rattle.bridge_laws.proofs.Parts.{same-missing, same-cause}
 use Rattle.trace.specs.Events as event
 use Rattle.trace.specs.Events.{Event}
-use Rattle.trace.specs.FarSide.{Ask, Wire, sending, wireAfter, PairedBy, Paired, paired}
-use Rattle.trace.specs.Claims.{isDown}
+use Rattle.trace.specs.FarSide.{Wire, wireAfter, PairedBy, Paired, paired}
+use Rattle.trace.specs.Claims.{goodBytes, anyGoodWord, isTick, isDown}
 use Rattle.trace.specs.Sound.{Sound}
-use Rattle.trace.proofs.View.{Move, idle, missed, reads, locals, routes, memories, configs, ticks, drops, links, releases}
-use Rattle.trace.proofs.Settling.{owner-most}
-use Rattle.trace.proofs.Sound.{fine-of}
+use Rattle.trace.proofs.View.{Move, missed, memories, configs, links}
 use Rattle.trace.proofs.Wire.{At, ownOf, Wired, own-comes, paired-own, paired-other}
-use Rattle.trace.proofs.Wired.{idle-wire, local-asks}
-use Rattle.trace.proofs.DeadlineMoves.{OpenFor, timed, open-some}
-use Rattle.trace.proofs.DeadlineAges.{Since}
-use Rattle.trace.proofs.OkayCalm.{Calm, calm-core, calm-then, read-calm, local-calm, routed-calm, release-calm, memory-calm, config-calm, expires-calm}
-use Rattle.trace.proofs.OkayAsks.{read-own, routed-own}
+use Rattle.trace.proofs.Comes.{open-missing}
+use Rattle.trace.proofs.DeadlineSpares.{OpenRow, OpenFor, Spares, core-spares}
+use Rattle.trace.proofs.DeadlineCalls.{call-spares}
+use Rattle.trace.proofs.DeadlineEvents.{Served, served-spares, serves-served, serving, answering, answered, Young, tick-all}
+use Rattle.trace.proofs.OkayAsks.{call-own}
+use Rattle.trace.proofs.OkayGood.{Comes, read-misses, read-serves, word-comes, word-answers}
 
-module _ (sent : ℕ → List (List ℕ)) (k : ℕ) (small : k ≤ 8) (P : Bridge → ℕ → List (List ℕ) → Type 0) (C : Bridge → Type 0) where
-  -- each open tag of the slot gets what is due to it
-  abbrev pub Due : Bridge → Wire → List Event → Type 0
-  Due b w es = (t : ℕ) → OpenFor b k t → P b t (paired (ownOf (w .live) t) es)
+-- what is malformed comes for no request
+paired-malformed : (j i : ℕ) (s : List ℕ) (es : List Event) → completionOf s ≡ Malformed → paired j (event.completion i s ∷ es) ≡ paired j es
+paired-malformed j i s es e = by (eqb j i) refl
+  where
+    by : (z : Bool) → eqb j i ≡ z → paired j (event.completion i s ∷ es) ≡ paired j es
+    by true z = rw (z, e)
+    by false z = rw z
 
-  -- a completion for tag t is accepted: l is still to come for the tag's request
-  pub record Hit (b x : Bridge) (t : ℕ) (l : List (List ℕ)) : Type 0 where
-    pub clean : C x
-    pub own : OpenFor x k t → P x t l
-    pub others : (u : ℕ) → u ≢ t → OpenFor x k u → OpenFor b k u × ((m : List (List ℕ)) → P b u m → P x u m)
+module _ (k r : ℕ) where
+  -- for a tag: of a read, all that is missing comes, as good bytes; of a configuration access, a good completion
+  pub record Due (t : Tag) (l : List (List ℕ)) : Type 0 where
+    pub bytes : k < 8 → goodBytes r l ≡ t .missing
+    pub word : k ≡ 8 → anyGoodWord r (eqb (t .kind) configWrite) l ≡ true
 
-  -- a completion comes for tag t, which is open for the slot
-  pub record Comes (h : Held) (w : Wire) (es : List Event) (i : ℕ) (s : List ℕ) (c : Completion) : Type 0 where
-    pub sound : Sound h
-    pub wired : Wired sent h w (event.completion i s ∷ es)
-    pub first : paired (ownOf (w .live) (c .tag)) (event.completion i s ∷ es) ≡ s ∷ paired (ownOf (w .live) (c .tag)) es
-    pub reads : completionOf s ≡ Header c
-    pub opens : OpenFor (h .bridge) k (c .tag)
-    pub clean : C (h .bridge)
-    pub due : P (h .bridge) (c .tag) (s ∷ paired (ownOf (w .live) (c .tag)) es)
-
-  pub record Rules : Type 0 where
-    pub calm-due : (b x : Bridge) → Calm k b x → (t : ℕ) → OpenFor x k t → (l : List (List ℕ)) → P b t l → P x t l
-    pub calm-clean : (b x : Bridge) → Calm k b x → C b → C x
-    -- one that is refused was not due
-    pub miss : (h : Held) (w : Wire) (es : List Event) (i : ℕ) (s : List ℕ) (c : Completion) → Comes h w es i s c → verdictOf (h .bridge) c ≡ Unexpected
-        → P (h .bridge) (c .tag) (paired (ownOf (w .live) (c .tag)) es)
-    pub memory : (h : Held) (w : Wire) (es : List Event) (i : ℕ) (s : List ℕ) (c : Completion) (v : Verdict) → Comes h w es i s c
-        → ownerOf (h .bridge) (c .tag) < 8 → memoryVerdict c (missingOf (h .bridge) (c .tag)) (nextAddress (h .bridge) (c .tag)) ≡ v → isUnexpected v ≡ false
-        → Hit (h .bridge) (memoryCompleted h (c .tag) (ownerOf (h .bridge) (c .tag)) (c .lower % 4) (drop 12 s) v .bridge) (c .tag) (paired (ownOf (w .live) (c .tag)) es)
-    pub config : (h : Held) (w : Wire) (es : List Event) (i : ℕ) (s : List ℕ) (c : Completion) (v : Verdict) → Comes h w es i s c
-        → 8 ≤ ownerOf (h .bridge) (c .tag) → configVerdict c (isWrite (h .bridge) (c .tag)) ≡ v → isUnexpected v ≡ false
-        → Hit (h .bridge) (configCompleted (h .bridge) (c .tag) (drop 12 s) v) (c .tag) (paired (ownOf (w .live) (c .tag)) es)
+  -- the answer so far is OKAY
+  pub record Clean (b : Bridge) : Type 0 where
+    pub requester : b .settings .requester ≡ r
+    pub read : k < 8 → failureOf b k ≡ 0
+    pub config : k ≡ 8 → b .core .config .response ≡ 0
 
   -- the access goes on: its answer so far is right, and what is due is still to come
-  pub record On (x : Bridge) (w : Wire) (es : List Event) : Type 0 where
-    pub clean : C x
-    pub due : Due x w es
+  pub record On (b : Bridge) (w : Wire) (es : List Event) : Type 0 where
+    pub clean : Clean b
+    pub due : (t : ℕ) → OpenFor b k t → Due (tagAt b t) (paired (ownOf (w .live) t) es)
 
-  module _ (rules : Rules) where
-    calm-on : (b x : Bridge) (w w' : Wire) (e : Event) (es : List Event) → Calm k b x
-        → ((t : ℕ) → OpenFor b k t → paired (ownOf (w' .live) t) es ≡ paired (ownOf (w .live) t) (e ∷ es)) → On b w (e ∷ es) → On x w' es
-    calm-on b x w w' e es p f o = record {
-      clean = rules .calm-clean b x p (o .clean);
-      due = λ t q. let r = p .tags t q .opens in rules .calm-due b x p t q (paired (ownOf (w' .live) t) es) (subst (P b t) (sym (f t r)) (o .due t r));
-    }
+  same-requester : {s z : Settings} → z ≡ s → s .requester ≡ r → z .requester ≡ r
+  same-requester e p = ap (λ (y : Settings). y .requester) e ∙ p
 
-    module _ (h : Held) (w : Wire) (es : List Event) (v : Sound h) where
-      abbrev b : Bridge
-      b = h .bridge
+  spares-clean : {n : ℕ} {b x : Bridge} → Spares n k b x → Clean b → Clean x
+  spares-clean p c = record {
+    requester = same-requester (p .settings) (c .requester);
+    read = λ l. same-cause (p .slot) ∙ c .read l;
+    config = λ z. ap (λ (y : ConfigSlot). y .response) (p .config z) ∙ c .config z;
+  }
 
-      -- ---- a completion
-      module _ (i : ℕ) (s : List ℕ) (d : Wired sent h w (event.completion i s ∷ es)) (p : Paired w (event.completion i s)) (o : On b w (event.completion i s ∷ es)) where
-        abbrev e : Event
-        e = event.completion i s
+  same-due : {a c : Tag} {l m : List (List ℕ)} → a ≡ c → l ≡ m → Due c m → Due a l
+  same-due {c = c} {l} e f p = subst (λ y. Due y l) (sym e) (subst (Due c) (sym f) p)
 
-        elsewhere : (c : Completion) → completionOf s ≡ Header c → (t : ℕ) → Open b t → t ≢ c .tag → paired (ownOf (w .live) t) (e ∷ es) ≡ paired (ownOf (w .live) t) es
-        elsewhere c r t m n =
-            paired-other (ownOf (w .live) t) i s es
-            (λ z. n (d .labels .once i t (c .tag) (subst (λ (j : ℕ). At j t (w .live)) z (d .tags t .opens m .here)) (subst (PairedBy w i) r p)))
+  -- an event that leaves the access alone
+  spares-on : {n : ℕ} {b x : Bridge} (w w' : Wire) (e : Event) (es : List Event) → Spares n k b x
+      → ((t : ℕ) → OpenFor b k t → paired (ownOf (w' .live) t) es ≡ paired (ownOf (w .live) t) (e ∷ es)) → On b w (e ∷ es) → On x w' es
+  spares-on w w' e es p f o = record {
+    clean = spares-clean p (o .clean);
+    due = λ t q. let z = p .tags t q in let y = subst (OpenRow k) z q in same-due z (f t y) (o .due t y);
+  }
 
-        comes : (c : Completion) → completionOf s ≡ Header c → OpenFor b k (c .tag) → Comes h w es i s c
-        comes c r q =
-            let y = own-comes sent h w i s c es d p r (q .0) in
-            let z : paired (ownOf (w .live) (c .tag)) (e ∷ es) ≡ s ∷ paired (ownOf (w .live) (c .tag)) es = subst (λ (j : ℕ). paired (ownOf (w .live) (c .tag)) (event.completion j s ∷ es) ≡ s ∷ paired (ownOf (w .live) (c .tag)) es) (sym y) (paired-own (ownOf (w .live) (c .tag)) s c es r) in
-            record { sound = v; wired = d; first = z; reads = r; opens = q; clean = o .clean; due = subst (P b (c .tag)) z (o .due (c .tag) q) }
+  -- ---- a completion
+  module _ (sent : ℕ → List (List ℕ)) (h : Held) (w : Wire) (es : List Event) (v : Sound h) (i : ℕ) (s : List ℕ)
+      (d : Wired sent h w (event.completion i s ∷ es)) (p : Paired w (event.completion i s)) (o : On (h .bridge) w (event.completion i s ∷ es)) where
+    abbrev b : Bridge
+    b = h .bridge
 
-        -- refused
-        missed-due : ((c : Completion) → completionOf s ≡ Header c → verdictOf b c ≡ Unexpected) → (x : CompletionRead) → completionOf s ≡ x → (t : ℕ) → OpenFor b k t → P b t (paired (ownOf (w .live) t) es)
-        missed-due f Malformed r t q = subst (P b t) (none (eqb (ownOf (w .live) t) i) refl) (o .due t q)
-          where
-            none : (z : Bool) → eqb (ownOf (w .live) t) i ≡ z → paired (ownOf (w .live) t) (e ∷ es) ≡ paired (ownOf (w .live) t) es
-            none true z = rw (z, r)
-            none false z = rw z
-        missed-due f (Header c) r t q = by (ℕ-discrete t (c .tag))
-          where
-            by : Dec (t ≡ c .tag) → P b t (paired (ownOf (w .live) t) es)
-            by (yes z) =
-                let q' : OpenFor b k (c .tag) = subst (OpenFor b k) z q in
-                subst (λ (u : ℕ). P b u (paired (ownOf (w .live) u) es)) (sym z) (rules .miss h w es i s c (comes c r q') (f c r))
-            by (no z) = subst (P b t) (elsewhere c r t (q .0) z) (o .due t q)
+    -- what is still to come for a tag, before the completion and after it
+    abbrev before : ℕ → List (List ℕ)
+    before t = paired (ownOf (w .live) t) (event.completion i s ∷ es)
 
-        -- accepted, for this slot or another
-        hit-on : (c : Completion) → completionOf s ≡ Header c → (x : Bridge) → OpenFor b k (c .tag) → Hit b x (c .tag) (paired (ownOf (w .live) (c .tag)) es) → On x w es
-        hit-on c r x q g = record { clean = g .clean; due = λ t y. by t y (ℕ-discrete t (c .tag)) }
-          where
-            by : (t : ℕ) → OpenFor x k t → Dec (t ≡ c .tag) → P x t (paired (ownOf (w .live) t) es)
-            by t y (yes z) = subst (λ (u : ℕ). P x u (paired (ownOf (w .live) u) es)) (sym z) (g .own (subst (OpenFor x k) z y))
-            by t y (no z) =
-                let a = g .others t z y in
-                a .1 (paired (ownOf (w .live) t) es) (subst (P b t) (elsewhere c r t (a .0 .0) z) (o .due t (a .0)))
+    abbrev after : ℕ → List (List ℕ)
+    after t = paired (ownOf (w .live) t) es
 
-        other-on : (c : Completion) → completionOf s ≡ Header c → (x : Bridge) → ownerOf b (c .tag) ≢ k → Calm k b x → On x w es
-        other-on c r x n g = calm-on b x w w e es g (λ t q. sym (elsewhere c r t (q .0) (λ z. n (ap (ownerOf b) (sym z) ∙ q .1)))) o
+    module _ (c : Completion) (reads : completionOf s ≡ Header c) where
+      abbrev t : ℕ
+      t = c .tag
 
-        memory-on : (c : Completion) (u : Verdict) → completionOf s ≡ Header c → Open b (c .tag) → ownerOf b (c .tag) < 8
-            → memoryVerdict c (missingOf b (c .tag)) (nextAddress b (c .tag)) ≡ u → isUnexpected u ≡ false → Dec (ownerOf b (c .tag) ≡ k)
-            → On (memoryCompleted h (c .tag) (ownerOf b (c .tag)) (c .lower % 4) (drop 12 s) u .bridge) w es
-        memory-on c u r m l f g (yes z) = hit-on c r _ (m, z) (rules .memory h w es i s c u (comes c r (m, z)) l f g)
-        memory-on c u r m l f g (no z) = other-on c r _ z (memory-calm k h (c .tag) (c .lower % 4) (drop 12 s) u z)
+      -- it comes for its tag, and for no other
+      own : Open b t → before t ≡ s ∷ after t
+      own m =
+          subst (λ j. paired (ownOf (w .live) t) (event.completion j s ∷ es) ≡ s ∷ after t) (sym (own-comes sent h w i s c es d p reads m))
+          (paired-own (ownOf (w .live) t) s c es reads)
 
-        config-on : (c : Completion) (u : Verdict) → completionOf s ≡ Header c → Open b (c .tag) → 8 ≤ ownerOf b (c .tag)
-            → configVerdict c (isWrite b (c .tag)) ≡ u → isUnexpected u ≡ false → Dec (ownerOf b (c .tag) ≡ k)
-            → On (configCompleted b (c .tag) (drop 12 s) u) w es
-        config-on c u r m l f g (yes z) = hit-on c r _ (m, z) (rules .config h w es i s c u (comes c r (m, z)) l f g)
-        config-on c u r m l f g (no z) =
-            let y = owner-most b (c .tag) (fine-of h v) m in
-            let j : k < 8 = omega (arith, z) in
-            other-on c r _ z (config-calm k b (c .tag) (drop 12 s) u j l)
+      elsewhere : (u : ℕ) → Open b u → u ≢ t → before u ≡ after u
+      elsewhere u m n =
+          paired-other (ownOf (w .live) u) i s es
+          (λ z. n (d .labels .once i u t (subst (λ j. At j u (w .live)) z (d .tags u .opens m .here)) (subst (PairedBy w i) reads p)))
 
-      -- ---- every event; c ticks have come since the access, this one's included
-      pub move-on : {e : Event} {x : Held} → Move h e x → Wired sent h w (e ∷ es) → Paired w e → isDown e ≡ false → stateOf b k ≡ 1
-          → (c : ℕ) → Since (timed e b) k c → c < b .settings .limit → c < 4294967296 → On b w (e ∷ es) → On (x .bridge) (wireAfter w h e) es
-      move-on (idle {c = e} r a l) d p n z c g m y o =
-          calm-on b (coreIn (withRegisters r (b .core)) b) w (wireAfter w h (event.call e)) (event.call e) es (calm-core k b (withRegisters r (b .core)) (λ q. refl))
-          (λ t q. ap (λ (u : Wire). paired (ownOf (u .live) t) es) (idle-wire h e w a)) o
-      move-on (missed {i = i} {s = s} r f l) d p n z c g m y o =
-          let x = coreIn (withRegisters r (b .core)) b in
-          let q = calm-core k b (withRegisters r (b .core)) (λ q. refl) in
-          record { clean = rules .calm-clean b x q (o .clean); due = λ t j. rules .calm-due b x q t j (paired (ownOf (w .live) t) es) (missed-due i s d p o f (completionOf s) refl t j) }
-      move-on (reads {q = q} {room = room} e) d p n z c g m y o =
-          calm-on b _ w (wireAfter w h (event.call (event.read q room))) (event.call (event.read q room)) es (read-calm k b q room (v .sizes) e z)
-          (λ t j. ap (λ (i : ℕ). paired i es) (read-own sent h q room v e w t (v .tags t (j .0) .used))) o
-      move-on (locals {a = a} {room = room} u e f) d p n z c g m y o =
-          calm-on b _ w (wireAfter w h (event.call (event.config a room))) (event.call (event.config a room)) es (local-calm k b a room u (v .sizes) e z)
-          (λ t j. ap (λ (l : List Ask). paired (ownOf (sending w l .live) t) es) (local-asks h a room u f)) o
-      move-on (routes {a = a} {room = room} e f) d p n z c g m y o =
-          calm-on b _ w (wireAfter w h (event.call (event.config a room))) (event.call (event.config a room)) es (routed-calm k b a room (v .sizes) e z)
-          (λ t j. ap (λ (i : ℕ). paired i es) (routed-own h a room e f w t (v .tags t (j .0) .used))) o
-      move-on (memories {i = i} {s = s} q u e r f l a j) d p n z c g m y o =
-          memory-on i s d p o q u e (open-some _ _ f) l a j (ℕ-discrete (ownerOf b (q .tag)) k)
-      move-on (configs {i = i} {s = s} q u e r f l a j) d p n z c g m y o =
-          config-on i s d p o q u e (open-some _ _ f) l a j (ℕ-discrete (ownerOf b (q .tag)) k)
-      move-on ticks d p n z c g m y o =
-          let x = held (timed event.tick b) (h .store) in
-          calm-on b _ w w event.tick es
-          (calm-then k b (x .bridge) _ (calm-core k b (x .bridge .core) (λ q. refl))
-          (expires-calm k c x g m y (λ t q. v .tags t q .past) (λ t q. owner-most b t (fine-of h v) q) tagCount)) (λ t j. refl) o
-      move-on (drops l) d p n z c g m y o = never n
-      move-on (links true q) d p n z c g m y o =
-          calm-on b (coreIn (linkIn true (b .core)) b) w w (event.link true) es (calm-core k b (linkIn true (b .core)) (λ q. refl)) (λ t j. refl) o
-      move-on (links false q) d p n z c g m y o = never n
-      move-on (releases {k = i} e) d p n z c g m y o = calm-on b _ w w (event.call (event.release i)) es (release-calm k b (length (h .store)) i e z) (λ t j. refl) o
+      -- the other tags are as they were
+      came-on : (x : Bridge) → Clean x → ((u : ℕ) → u ≢ t → tagAt x u ≡ tagAt b u) → (OpenFor x k t → Due (tagAt x t) (after t)) → On x w es
+      came-on x g f q = record { clean = g; due = λ u y. by u y (ℕ-discrete u t) }
+        where
+          by : (u : ℕ) → OpenFor x k u → Dec (u ≡ t) → Due (tagAt x u) (after u)
+          by u y (yes z) = subst (λ a. OpenFor x k a → Due (tagAt x a) (after a)) (sym z) q y
+          by u y (no n) = let a = f u n in let z = subst (OpenRow k) a y in same-due a (sym (elsewhere u (z .0) n)) (o .due u z)
+
+      -- what is due to its tag
+      module _ (q : OpenFor b k t) where
+        now : Due (tagAt b t) (s ∷ after t)
+        now = same-due refl (sym (own (q .0))) (o .due t q)
+
+        comes : Comes sent h w es i s c (after t)
+        comes = record { sound = v; wired = d; opens = q .0; reads = reads; first = own (q .0) }
+
+        -- it is refused
+        missed-due : verdictOf b c ≡ Unexpected → Due (tagAt b t) (after t)
+        missed-due u =
+            let z = q .1 in
+            record {
+              bytes = λ l. read-misses comes r (omega arith) (now .bytes l) (o .clean .requester) u;
+              word = λ l. absurd (word-comes comes r (omega arith) (now .word l) (o .clean .requester) u);
+            }
+
+        -- it is accepted for a read
+        memory-on : {skip : ℕ} {payload : List ℕ} {x : Held} {u : Verdict} → Serves t (ownerOf b t) skip payload h x u → ownerOf b t < 8
+            → memoryVerdict c (missingOf b t) (nextAddress b t) ≡ u → On (x .bridge) w es
+        memory-on {skip} {payload} {x} {u} a l y =
+            let z = q .1 in
+            let f = serves-served a l .acts in
+            let m : k < 8 = omega arith in
+            let g = read-serves comes r l (now .bytes m) (subst (λ j. Serves t j skip payload h x u) z a) y in
+            came-on (x .bridge)
+            (record { requester = same-requester (f .settings) (o .clean .requester); read = λ n. g .0 ∙ o .clean .read n; config = λ n. absurd (omega arith) })
+            (f .tags) (λ n. record { bytes = λ j. g .1; word = λ j. absurd (omega arith) })
+
+        -- for the configuration access
+        config-on : (u : Verdict) → 8 ≤ ownerOf b t → configVerdict c (isWrite b t) ≡ u → k ≤ 8 → On (configCompleted b t (drop 12 s) u) w es
+        config-on u l y m =
+            let z = q .1 in
+            let j : k ≡ 8 = omega arith in
+            let a = answering h t v (q .0) (drop 12 s) u 8 in
+            let g = word-answers comes r l (now .word j) (drop 12 s) u y in
+            came-on (configCompleted b t (drop 12 s) u)
+            (record { requester = same-requester (a .settings) (o .clean .requester); read = λ n. absurd (omega arith); config = λ n. ap (λ (x : Core). x .config .response) (a .core) ∙ g })
+            (a .tags) (λ n. absurd (n .0 (same-missing (a .tag))))
+
+      -- it is accepted, for this slot or another
+      accepted-on : {x : Bridge} → Served t (ownerOf b t) b x → Open b t → (OpenFor b k t → On x w es) → On x w es
+      accepted-on {x} g m f = by (ℕ-discrete (ownerOf b t) k)
+        where
+          by : Dec (ownerOf b t ≡ k) → On x w es
+          by (yes z) = f (m, z)
+          by (no n) = came-on x (spares-clean (served-spares k g (v .clock) (λ z. n (sym z)) n) (o .clean)) (g .acts .tags) (λ q. absurd (n (sym (g .owner) ∙ q .1)))
+
+    completion-on : {x : Held} → k ≤ 8 → Move h (event.completion i s) x → On (x .bridge) w es
+    completion-on n (missed y f l) = by (completionOf s) refl
+      where
+        g : Spares 0 k b (coreIn (withRegisters y (b .core)) b)
+        g = core-spares k b (withRegisters y (b .core)) (v .clock) refl (λ z. refl)
+
+        by : (z : CompletionRead) → completionOf s ≡ z → On (coreIn (withRegisters y (b .core)) b) w es
+        by (Header c) e = came-on c e (coreIn (withRegisters y (b .core)) b) (spares-clean g (o .clean)) (λ u n. refl) (λ q. missed-due c e q (f c e))
+        by Malformed e = spares-on w w (event.completion i s) es g (λ t q. sym (paired-malformed (ownOf (w .live) t) i s es e)) o
+    completion-on n (memories c u e r f l y j) =
+        let m = open-missing _ _ f in
+        let a = serving h (c .tag) v m (c .lower % 4) (drop 12 s) u l j in
+        accepted-on c e (serves-served a l) m (λ q. memory-on c e q a l y)
+    completion-on n (configs c u e r f l y j) =
+        let m = open-missing _ _ f in
+        accepted-on c e (answered h (c .tag) v m (drop 12 s) u l j) m (λ q. config-on c e q u l y n)
+
+  -- ---- every event
+  pub move-on : (sent : ℕ → List (List ℕ)) (h : Held) (w : Wire) (es : List Event) → k ≤ 8 → Sound h → (e : Event) {x : Held} → Move h e x → Wired sent h w (e ∷ es) → Paired w e
+      → isDown e ≡ false → stateOf (h .bridge) k ≡ 1 → (isTick e ≡ 1 → Young k (h .bridge)) → On (h .bridge) w (e ∷ es) → On (x .bridge) (wireAfter w h e) es
+  move-on sent h w es l v (event.call c) m d p n z y o =
+      spares-on w (wireAfter w h (event.call c)) (event.call c) es (call-spares k m v z) (λ t q. ap (λ (i : ℕ). paired i es) (call-own m v w t (q .0))) o
+  move-on sent h w es l v (event.completion i s) m d p n z y o = completion-on sent h w es v i s d p o l m
+  move-on sent h w es l v event.tick m d p n z y o = spares-on w w event.tick es (tick-all k v m .spares k (y refl)) (λ t q. refl) o
+  move-on sent h w es l v (event.link true) (links up j) d p n z y o =
+      spares-on w w (event.link true) es (core-spares k (h .bridge) (linkIn true (h .bridge .core)) (v .clock) refl (λ z. refl)) (λ t q. refl) o
+  move-on sent h w es l v (event.link false) m d p n z y o = never n

@@ -6,14 +6,12 @@ use mathlib.Core.Bool.{Bool, true, false, cond, _&&_}
 use lib.Dec.{ltb, eqb}
 use borrow.Author.Tests.{eqb-true, ltb-true}
 use Rattle.common.proofs.Tests.{and-left, and-right}
-use Rattle.tags.specs.Tags.{lowest}
 use Rattle.address.specs.declared.Settings.{Settings}
 use Rattle.address.specs.Settings.{between, powerOfTwo, windowsRight, settingsRight, settingsNumber}
 use Rattle.address.proofs.Laws.{accepted}
 use Rattle.burst.specs.declared.Burst.{Burst}
 use Rattle.burst.specs.Pieces.{addresses}
 use Rattle.machine.specs.Bridge.{Bridge}
-use Rattle.machine.specs.State.{tagCount}
 use Rattle.machine.specs.Memory.{piecesOf, readRefusal, readBytes}
 use Rattle.machine.specs.Config.{Access, routeOf, goesOut, configRefusal, routedBytes}
 use Rattle.machine.specs.Completions.{Held}
@@ -22,23 +20,16 @@ use Rattle.bridge_laws.proofs.ConfigLaws.{routed-packet}
 use Rattle.machine.proofs.Judging.{never}
 use Rattle.trace.specs.Events as event
 use Rattle.trace.specs.Events.{Event, step, run, start}
-use Rattle.trace.specs.FarSide.{word, Ask, askOf, asked}
+use Rattle.trace.specs.FarSide.{askOf, asked}
 use Rattle.trace.specs.Sound.{Sound}
 use Rattle.trace.specs.Sent.{headerOf, wordPacket, isWrite, AskedIsSent}
 use Rattle.trace.proofs.Sound.{run-sound}
+use Rattle.trace.proofs.Opened.{turns, wordAsk}
 
 flat-map : {A B C : Type 0} (g : B → List C) (f : A → B) (l : List A) → flatMap g (map f l) ≡ flatMap (λ x. g (f x)) l
 unfolding flatMap
 flat-map g f [] = refl
 flat-map g f (x ∷ l) = ap (_++_ (g (f x))) (flat-map g f l)
-
-flat-none : {A B : Type 0} (f : A → List B) → flatMap f [] ≡ []
-unfolding flatMap
-flat-none f = refl
-
-flat-one : {A B : Type 0} (f : A → List B) (x : A) → flatMap f (x ∷ []) ≡ f x
-unfolding flatMap
-flat-one f x = append-nil (f x)
 
 -- the requester ID of right settings has 16 bits
 requester-fits : (s : Settings) → settingsNumber s ≡ 0 → s .requester < 2 ^ 16
@@ -55,33 +46,33 @@ module _ (h : Held) (v : Sound h) where
   b = h .bridge
 
   read-by : (q : Burst) (room : ℕ) (z : Bool) → eqb (readRefusal b q room) 0 ≡ z
-      → cond z (readBytes b q) [] ≡ flatMap (headerOf b) (cond z (map (askOf b q) (addresses 0 (piecesOf (b .settings .reads) q))) [])
+      → cond z (readBytes b q) [] ≡ flatMap (headerOf b) (cond z (turns b q) [])
+  unfolding flatMap
   read-by q room true e =
       accepted-read-sends b q room (v .right) (eqb-true _ _ e) .sent
       ∙ sym (flat-map (headerOf b) (askOf b q) (addresses 0 (piecesOf (b .settings .reads) q)))
-  read-by q room false e = sym (flat-none (headerOf b))
+  read-by q room false e = refl
 
   read-sent : (q : Burst) (room : ℕ) → step h (event.call (event.read q room)) .out .sent ≡ flatMap (headerOf b) (asked h (event.call (event.read q room)))
   read-sent q room = read-by q room (eqb (readRefusal b q room) 0) refl
 
-  abbrev ask : Ask
-  ask = record { tag = lowest tagCount (b .core .free); wanted = word }
-
   config-by : (a : Access) (room : ℕ) (z g : Bool) → eqb (configRefusal b a room) 0 ≡ z → goesOut (routeOf b a) ≡ g
-      → cond z (cond g (routedBytes b a) []) [] ≡ flatMap (wordPacket b a) (cond (z && g) (ask ∷ []) [])
+      → cond z (cond g (routedBytes b a) []) [] ≡ flatMap (wordPacket b a) (cond (z && g) (wordAsk b a) [])
+  unfolding flatMap
   config-by a room true true e g =
       rw g at (routed-packet b a room (record { requester = requester-fits (b .settings) (v .right); accepted = eqb-true _ _ e; out = g }) .bytes)
-      ∙ sym (flat-one (wordPacket b a) ask)
-  config-by a room true false e g = sym (flat-none (wordPacket b a))
-  config-by a room false g e f = sym (flat-none (wordPacket b a))
+      ∙ sym (append-nil _)
+  config-by a room true false e g = refl
+  config-by a room false g e f = refl
 
   config-sent : (a : Access) (room : ℕ) → step h (event.call (event.config a room)) .out .sent ≡ flatMap (wordPacket b a) (asked h (event.call (event.config a room)))
   config-sent a room = config-by a room (eqb (configRefusal b a room) 0) (goesOut (routeOf b a)) refl refl
 
   nothing-sent : (e : Event) → isWrite e ≡ false → asked h e ≡ [] → step h e .out .sent ≡ []
-  nothing-sent (event.call (event.read q room)) w n = read-sent q room ∙ (ap (flatMap (headerOf b)) n ∙ flat-none (headerOf b))
+  unfolding flatMap
+  nothing-sent (event.call (event.read q room)) w n = read-sent q room ∙ ap (flatMap (headerOf b)) n
   nothing-sent (event.call (event.write q bs room)) w n = never w
-  nothing-sent (event.call (event.config a room)) w n = config-sent a room ∙ (ap (flatMap (wordPacket b a)) n ∙ flat-none (wordPacket b a))
+  nothing-sent (event.call (event.config a room)) w n = config-sent a room ∙ ap (flatMap (wordPacket b a)) n
   nothing-sent (event.completion i s) w n = refl
   nothing-sent event.tick w n = refl
   nothing-sent (event.link up) w n = refl
@@ -90,6 +81,5 @@ module _ (h : Held) (v : Sound h) where
 
 pub asked-is-sent : AskedIsSent
 asked-is-sent s store l es =
-    let h = run (start s store) es in
     let v = run-sound s store l es in
-    record { read = read-sent h v; config = config-sent h v; nothing = nothing-sent h v }
+    record { read = read-sent _ v; config = config-sent _ v; nothing = nothing-sent _ v }

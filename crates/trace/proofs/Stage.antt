@@ -1,174 +1,180 @@
--- One read, from the time it is accepted: its bytes are in place or still missing, unless a piece has failed.
+-- One read, from the time it is accepted: of each piece a tag waits, or all its bytes are in place; unless a piece has failed.
 use Prim.Native.Nat.{ℕ, _+_, _*_, _≤_, _<_}
 use mathlib.Core.Path.{_≡_, sym, subst, _∙_}
-use mathlib.Core.Logic.{_≢_, _⊎_, inl, inr}
-use mathlib.Core.List.{List, _∷_}
+use mathlib.Core.Logic.{_≢_}
+use mathlib.Core.List.{List}
 use native.Mathlib.Omega.{arith}
 use lib.ListN.{length, getD}
+use lib.Dec.{leb, ltb}
+use borrow.Author.Tests.{lt-ltb, eq-eqb}
 use Rattle.burst.specs.declared.Burst.{Burst}
 use Rattle.burst.specs.declared.Piece.{Piece}
 use Rattle.burst.specs.Bursts.{lengthOf}
-use Rattle.machine.specs.Bridge.{Bridge}
-use Rattle.machine.specs.State.{missingOf, ownerOf, placeOf, Open}
+use Rattle.burst.proofs.Tiling.{piece-within}
+use Rattle.verdict.specs.declared.Cause.{Cause}
+use Rattle.verdict.specs.declared.Cause.the-variants.{UnsupportedRequest, RequestRetry, CompleterAbort, Poison, Timeout}
+use Rattle.machine.specs.State.{Bridge, Tag, Slot, tagAt, slotAt, ownerOf, Open}
 use Rattle.machine.specs.Memory.{piecesOf, pieceOf, placeIn}
+use Rattle.machine.specs.Verdict.{causeResponse}
 use Rattle.machine.specs.Completions.{Held}
-use Rattle.bridge_laws.specs.CompletionLaws.{SlotSame}
+use Rattle.bridge_laws.specs.Rows.{faultedSlot, closedSlot, droppedSlot}
+use Rattle.bridge_laws.proofs.Parts.{same-missing, same-owner}
 use Rattle.trace.specs.Events.{Event}
 use Rattle.trace.specs.FarSide.{bytesSent, Wire}
-use Rattle.trace.proofs.Wire.{ownOf, Flow, flow-later}
-use Rattle.trace.proofs.Joined.{byteAt}
+use Rattle.trace.proofs.Wire.{ownOf, Flow}
+use Rattle.trace.proofs.Put.{either}
 
--- ---- tags of a slot that stay as they were
+-- ---- its slot
 
-pub record Same (b x : Bridge) (w z : Wire) (t : ℕ) : Type 0 where
-  pub missing : missingOf x t ≡ missingOf b t
-  pub owner : ownerOf x t ≡ ownerOf b t
-  pub place : placeOf x t ≡ placeOf b t
-  pub own : ownOf (z .live) t ≡ ownOf (w .live) t
+-- a piece has failed
+pub record Spoilt (s : Slot) : Type 0 where
+  pub used : s .state ≢ 0
+  pub cause : s .cause ≢ 0
 
--- slot k has the same open tags
-pub record TagsStay (k : ℕ) (b x : Bridge) (w z : Wire) : Type 0 where
-  pub forth : (t : ℕ) → Open b t → ownerOf b t ≡ k → Same b x w z t
-  pub back : (t : ℕ) → Open x t → ownerOf x t ≡ k → Open b t × (ownerOf b t ≡ k)
+-- none has
+pub record Sane (n : ℕ) (s : Slot) : Type 0 where
+  pub used : s .state ≢ 0
+  pub cause : s .cause ≡ 0
+  pub fault : s .fault ≡ 4096
+  pub size : s .size ≡ n
 
--- the read of burst q in slot k, cut at multiples of l; its requests are numbered from i on
-module _ (sent : ℕ → List (List ℕ)) (l : ℕ) (pos : 0 < l) (q : Burst) (i k : ℕ) where
+pub closed-spoilt : {s : Slot} → Spoilt s → Spoilt (closedSlot s)
+closed-spoilt {s} p = either Spoilt (leb (s .pieces) 1) (record { used = λ e. omega arith; cause = p .cause }) (record { used = p .used; cause = p .cause })
+
+pub closed-sane : {n : ℕ} {s : Slot} → Sane n s → Sane n (closedSlot s)
+closed-sane {n} {s} p =
+    either (Sane n) (leb (s .pieces) 1)
+    (record { used = λ e. omega arith; cause = p .cause; fault = p .fault; size = p .size })
+    (record { used = p .used; cause = p .cause; fault = p .fault; size = p .size })
+
+not-okay : (why : Cause) → causeResponse why ≢ 0
+not-okay UnsupportedRequest e = omega arith
+not-okay RequestRetry e = omega arith
+not-okay CompleterAbort e = omega arith
+not-okay Poison e = omega arith
+not-okay Timeout e = omega arith
+
+pub open-dropped : (s : Slot) → s .state ≡ 1 → Spoilt (droppedSlot s)
+open-dropped s e = rw (eq-eqb (s .state) 1 e) (record { used = λ z. omega arith; cause = λ z. omega arith })
+
+-- ---- its tags
+
+-- a tag is open for slot k
+abbrev pub Waits : ℕ → Bridge → ℕ → Type 0
+Waits k b t = Open b t × (ownerOf b t ≡ k)
+
+pub waits-same : (k : ℕ) (b x : Bridge) (t : ℕ) → tagAt x t ≡ tagAt b t → Waits k b t → Waits k x t
+waits-same k b x t e m = (λ z. m .0 (sym (same-missing e) ∙ z), same-owner e ∙ m .1)
+
+-- ---- the read
+
+-- slot k has the same bytes
+abbrev pub BytesSame : ℕ → Held → Held → Type 0
+BytesSame k h x = (y : ℕ) → y < 4096 → getD (x .store) (4096 * k + y) 0 ≡ getD (h .store) (4096 * k + y) 0
+
+-- burst and slot of a read that is cut at multiples of a limit; its requests are numbered from the first on
+pub record Read : Type 0 where
+  pub sent : ℕ → List (List ℕ)
+  pub limit : ℕ
+  pub burst : Burst
+  pub slot : ℕ
+  pub first : ℕ
+  pub some : 0 < limit
+  pub small : slot < 8
+  pub most : lengthOf burst ≤ 4096
+
+module _ (r : Read) where
+  abbrev pub count : ℕ
+  count = piecesOf (r .limit) (r .burst)
+
   abbrev pub piece : ℕ → Piece
-  piece j = pieceOf l q j
+  piece j = pieceOf (r .limit) (r .burst) j
+
+  abbrev pub place : ℕ → ℕ
+  place j = placeIn (r .burst) (piece j)
 
   -- what the list of the j-th request sends
   unfoldable pub part : ℕ → List ℕ
-  part j = bytesSent (piece j .length) (sent (i + j))
+  part j = bytesSent (piece j .length) (r .sent (r .first + j))
 
-  -- the byte that belongs at place y
-  unfoldable pub right : ℕ → ℕ
-  right y = byteAt l (q .start .0) (lengthOf q) pos part (q .start .0 + y)
+  -- byte x of piece j is in place
+  abbrev pub Right : List ℕ → ℕ → ℕ → Type 0
+  Right store j x = getD store (4096 * r .slot + (place j + x)) 0 ≡ getD (part j) x 0
 
-  abbrev pub Exact : ℕ → Type 0
-  Exact j = length (part j) ≡ piece j .length
-
-  -- an open tag of the slot is open for one of the pieces
-  pub record Mine (b : Bridge) (w : Wire) (es : List Event) (t : ℕ) : Type 0 where
-    pub turn : ℕ
-    pub below : turn < piecesOf l q
-    pub own : ownOf (w .live) t ≡ i + turn
+  -- of piece j a tag waits, with this row, for the request with this number: the bytes before the tag's place have come
+  pub record Mine (store : List ℕ) (es : List Event) (number : ℕ) (t : Tag) (j : ℕ) : Type 0 where
+    pub own : number ≡ r .first + j
     pub next : ℕ
-    pub flow : Flow sent es (i + turn) (piece turn .length) next (missingOf b t)
-    pub place : placeOf b t + missingOf b t ≡ placeIn q (piece turn) + piece turn .length
+    pub flow : Flow (r .sent) es (r .first + j) (piece j .length) next (t .missing)
+    pub ends : t .place + t .missing ≡ place j + piece j .length
+    pub bytes : (x : ℕ) → place j + x < t .place → Right store j x
 
-  -- the byte at place y is missing for an open tag
-  pub record Awaited (b : Bridge) (y : ℕ) : Type 0 where
-    pub tag : ℕ
-    pub opens : Open b tag
-    pub owner : ownerOf b tag ≡ k
-    pub from : placeOf b tag ≤ y
-    pub to : y < placeOf b tag + missingOf b tag
+  -- piece j has come
+  pub record Whole (store : List ℕ) (j : ℕ) : Type 0 where
+    pub exact : length (part j) ≡ piece j .length
+    pub bytes : (x : ℕ) → x < piece j .length → Right store j x
 
-  -- an open tag has piece j
-  pub record Pending (b : Bridge) (w : Wire) (j : ℕ) : Type 0 where
-    pub tag : ℕ
-    pub opens : Open b tag
-    pub owner : ownerOf b tag ≡ k
-    pub own : ownOf (w .live) tag ≡ i + j
-
-  -- no piece has failed
   pub record Clean (h : Held) (w : Wire) (es : List Event) : Type 0 where
-    pub size : getD (h .bridge .size) k 0 ≡ lengthOf q
-    pub tags : (t : ℕ) → Open (h .bridge) t → ownerOf (h .bridge) t ≡ k → Mine (h .bridge) w es t
-    pub bytes : (y : ℕ) → y < lengthOf q → (getD (h .store) (4096 * k + y) 0 ≡ right y) ⊎ Awaited (h .bridge) y
-    pub whole : (j : ℕ) → j < piecesOf l q → Exact j ⊎ Pending (h .bridge) w j
-
-  -- every byte is in place
-  pub record Done (h : Held) : Type 0 where
-    pub size : getD (h .bridge .size) k 0 ≡ lengthOf q
-    pub bytes : (y : ℕ) → y < lengthOf q → getD (h .store) (4096 * k + y) 0 ≡ right y
-    pub whole : (j : ℕ) → j < piecesOf l q → Exact j
-
-  pub record Going (h : Held) (w : Wire) (es : List Event) : Type 0 where
-    pub state : getD (h .bridge .state) k 0 ≡ 1
-    pub cause : getD (h .bridge .cause) k 0 ≡ 0
-    pub fault : getD (h .bridge .fault) k 0 ≡ 4096
-    pub clean : Clean h w es
+    pub slot : Sane (lengthOf (r .burst)) (slotAt (h .bridge) (r .slot))
+    pub mine : (t : ℕ) → Waits (r .slot) (h .bridge) t → (j : ℕ) × (j < count) × Mine (h .store) es (ownOf (w .live) t) (tagAt (h .bridge) t) j
+    pub whole : (j : ℕ) → j < count → ((t : ℕ) → Waits (r .slot) (h .bridge) t → ownOf (w .live) t ≢ r .first + j) → Whole (h .store) j
 
   pub data Stage (h : Held) (w : Wire) (es : List Event) : Type 0 where
-    spoilt : getD (h .bridge .state) k 0 ≢ 0 → getD (h .bridge .cause) k 0 ≢ 0 → Stage h w es
-    going : Going h w es → Stage h w es
-    over : getD (h .bridge .state) k 0 ≡ 2 → Done h → Stage h w es
+    spoilt : Spoilt (slotAt (h .bridge) (r .slot)) → Stage h w es
+    clean : Clean h w es → Stage h w es
 
-  -- ---- with an event gone by
-  mine-later : (b : Bridge) (w : Wire) (e : Event) (es : List Event) (t : ℕ) → Mine b w (e ∷ es) t → Mine b w es t
-  mine-later b w e es t m =
-      record {
-        turn = m .turn;
-        below = m .below;
-        own = m .own;
-        next = m .next;
-        flow = flow-later sent e es (i + m .turn) (piece (m .turn) .length) (m .next) (missingOf b t) (m .flow);
-        place = m .place;
-      }
+  pub stage-used : {h : Held} {w : Wire} {es : List Event} → Stage h w es → slotAt (h .bridge) (r .slot) .state ≢ 0
+  stage-used (spoilt s) = s .used
+  stage-used (clean c) = c .slot .used
 
-  pub clean-later : (h : Held) (w : Wire) (e : Event) (es : List Event) → Clean h w (e ∷ es) → Clean h w es
-  clean-later h w e es c = record { size = c .size; tags = λ t m o. mine-later (h .bridge) w e es t (c .tags t m o); bytes = c .bytes; whole = c .whole }
+  -- a failure spoils it
+  pub fails : {h : Held} {w : Wire} {es : List Event} (at : ℕ) (why : Cause) → at < 4096 → Stage h w es → Spoilt (faultedSlot at (causeResponse why) (slotAt (h .bridge) (r .slot)))
+  fails {h} at why l (spoilt s) = either Spoilt (ltb at (slotAt (h .bridge) (r .slot) .fault)) (record { used = s .used; cause = not-okay why }) s
+  fails {h} at why l (clean c) = rw (lt-ltb at (slotAt (h .bridge) (r .slot) .fault) (omega (arith, c .slot .fault))) (record { used = c .slot .used; cause = not-okay why })
 
-  pub stage-later : (h : Held) (w : Wire) (e : Event) (es : List Event) → Stage h w (e ∷ es) → Stage h w es
-  stage-later h w e es (spoilt s c) = spoilt s c
-  stage-later h w e es (going g) = going (record { state = g .state; cause = g .cause; fault = g .fault; clean = clean-later h w e es (g .clean) })
-  stage-later h w e es (over s d) = over s d
+  -- a piece lies in the burst
+  pub inside : (j : ℕ) → j < count → place j + piece j .length ≤ lengthOf (r .burst)
+  inside j l = let w = piece-within (r .limit) (r .burst .start .0) (lengthOf (r .burst)) j (r .some) l in omega arith
 
-  -- ---- frames
-  module _ (h x : Held) (w z : Wire) (same : SlotSame k h x) (es : List Event) where
-    pub mine-stays : (t : ℕ) → Same (h .bridge) (x .bridge) w z t → Mine (h .bridge) w es t → Mine (x .bridge) z es t
-    mine-stays t s m =
-        record {
-          turn = m .turn;
-          below = m .below;
-          own = s .own ∙ m .own;
-          next = m .next;
-          flow = subst (λ (n : ℕ). Flow sent es (i + m .turn) (piece (m .turn) .length) (m .next) n) (sym (s .missing)) (m .flow);
-          place = omega (arith, s .place, s .missing, m .place);
-        }
+  -- ---- an event that concerns the read in nothing
 
-    awaited-stays : TagsStay k (h .bridge) (x .bridge) w z → (y : ℕ) → Awaited (h .bridge) y → Awaited (x .bridge) y
-    awaited-stays f y a =
-        let s = f .forth (a .tag) (a .opens) (a .owner) in
-        record {
-          tag = a .tag;
-          opens = λ m. a .opens (sym (s .missing) ∙ m);
-          owner = s .owner ∙ a .owner;
-          from = omega (arith, s .place, a .from);
-          to = omega (arith, s .place, s .missing, a .to);
-        }
+  -- its slot, its bytes, its tags and their requests are as they were
+  pub record Aside (h x : Held) (w z : Wire) : Type 0 where
+    pub slot : slotAt (x .bridge) (r .slot) ≡ slotAt (h .bridge) (r .slot)
+    pub bytes : BytesSame (r .slot) h x
+    pub tags : (t : ℕ) → Waits (r .slot) (h .bridge) t → tagAt (x .bridge) t ≡ tagAt (h .bridge) t
+    pub own : (t : ℕ) → Waits (r .slot) (h .bridge) t → ownOf (z .live) t ≡ ownOf (w .live) t
+    pub back : (t : ℕ) → Waits (r .slot) (x .bridge) t → Waits (r .slot) (h .bridge) t
 
-    pending-stays : TagsStay k (h .bridge) (x .bridge) w z → (j : ℕ) → Pending (h .bridge) w j → Pending (x .bridge) z j
-    pending-stays f j a =
-        let s = f .forth (a .tag) (a .opens) (a .owner) in
-        record { tag = a .tag; opens = λ m. a .opens (sym (s .missing) ∙ m); owner = s .owner ∙ a .owner; own = s .own ∙ a .own }
+  -- what is still to come may be less
+  abbrev pub Later : List Event → List Event → Type 0
+  Later fs es = (i n a m : ℕ) → Flow (r .sent) fs i n a m → Flow (r .sent) es i n a m
 
-    pub clean-stays : lengthOf q ≤ 4096 → TagsStay k (h .bridge) (x .bridge) w z → Clean h w es → Clean x z es
-    clean-stays most f c =
-        record {
-          size = same .size ∙ c .size;
-          tags = λ t m o. let y = f .back t m o in mine-stays t (f .forth t (y .0) (y .1)) (c .tags t (y .0) (y .1));
-          bytes = λ y g. bytes y g (c .bytes y g);
-          whole = λ j g. whole j (c .whole j g);
-        }
-      where
-        bytes : (y : ℕ) → y < lengthOf q → (getD (h .store) (4096 * k + y) 0 ≡ right y) ⊎ Awaited (h .bridge) y → (getD (x .store) (4096 * k + y) 0 ≡ right y) ⊎ Awaited (x .bridge) y
-        bytes y g (inl e) = inl (same .bytes y (omega arith) ∙ e)
-        bytes y g (inr a) = inr (awaited-stays f y a)
+  -- a piece whose tag's row and request are the same, and whose bytes stay right
+  pub mine-stays : {d s : List ℕ} {fs es : List Event} {n m j : ℕ} {t u : Tag} → Later fs es → m ≡ n → u ≡ t → ((x : ℕ) → x < piece j .length → Right d j x → Right s j x) → Mine d fs n t j → Mine s es m u j
+  mine-stays {s = s} {es = es} {m = m} {j = j} {t = t} l e f g y =
+      subst (λ (u : Tag). Mine s es m u j) (sym f)
+      (record {
+        own = e ∙ y .own;
+        next = y .next;
+        flow = l (r .first + j) (piece j .length) (y .next) (t .missing) (y .flow);
+        ends = y .ends;
+        bytes = λ x l. g x (omega (arith, y .ends)) (y .bytes x l);
+      })
 
-        whole : (j : ℕ) → Exact j ⊎ Pending (h .bridge) w j → Exact j ⊎ Pending (x .bridge) z j
-        whole j (inl e) = inl e
-        whole j (inr a) = inr (pending-stays f j a)
-
-    pub stage-stays : lengthOf q ≤ 4096 → (getD (h .bridge .state) k 0 ≡ 1 → TagsStay k (h .bridge) (x .bridge) w z) → Stage h w es → Stage x z es
-    stage-stays most f (spoilt s c) = spoilt (λ m. s (sym (same .state) ∙ m)) (λ m. c (sym (same .cause) ∙ m))
-    stage-stays most f (going g) =
-        going (record { state = same .state ∙ g .state; cause = same .cause ∙ g .cause; fault = same .fault ∙ g .fault; clean = clean-stays most (f (g .state)) (g .clean) })
-    stage-stays most f (over s d) =
-        over (same .state ∙ s) (record { size = same .size ∙ d .size; bytes = λ y g. same .bytes y (omega arith) ∙ d .bytes y g; whole = d .whole })
-
-  pub stage-used : (h : Held) (w : Wire) (es : List Event) → Stage h w es → getD (h .bridge .state) k 0 ≢ 0
-  stage-used h w es (spoilt s c) = s
-  stage-used h w es (going g) = λ m. omega (arith, g .state)
-  stage-used h w es (over s d) = λ m. omega arith
+  pub stage-stays : {h x : Held} {w z : Wire} {fs es : List Event} → Later fs es → Aside h x w z → Stage h w fs → Stage x z es
+  stage-stays f a (spoilt s) = spoilt (subst Spoilt (sym (a .slot)) s)
+  stage-stays {h} {x} {w} {z} {es} f a (clean c) =
+      clean (record {
+        slot = subst (Sane (lengthOf (r .burst))) (sym (a .slot)) (c .slot);
+        mine = λ t m.
+            let n = a .back t m in
+            let y = c .mine t n in
+            (y .0, y .1, mine-stays f (a .own t n) (a .tags t n) (right (y .0) (y .1)) (y .2));
+        whole = λ j l n.
+            let y = c .whole j l (λ t m o. n t (waits-same (r .slot) (h .bridge) (x .bridge) t (a .tags t m) m) (a .own t m ∙ o)) in
+            record { exact = y .exact; bytes = λ i g. right j l i g (y .bytes i g) };
+      })
+    where
+      right : (j : ℕ) → j < count → (i : ℕ) → i < piece j .length → Right (h .store) j i → Right (x .store) j i
+      right j l i g e = a .bytes (place j + i) (omega (arith, inside j l, r .most)) ∙ e

@@ -1,233 +1,106 @@
--- What completions, ticks and link changes do to the columns by tag and to the free tags.
-use Prim.Native.Nat.{ℕ, zero, suc, _+_, _-_, _*_, _≤_, _<_}
+-- The invariant under steps on rows: it is looked at where a row changes, and in no other place.
+use Prim.Native.Nat.{ℕ, _≤_, _<_}
 use mathlib.Core.Path.{_≡_, refl, sym, ap, subst, _∙_}
-use mathlib.Core.Logic.{_⊎_, inl, inr}
-use mathlib.Core.List.{List, [], _∷_}
-use mathlib.Core.Bool.{Bool, true, false, cond}
-use lib.ListN.{getD, set, replicate}
-use lib.Seq.{paste}
-use lib.Dec.{ltb, leb, eqb}
-use Rattle.bits.specs.Bits.{setBit}
-use Rattle.burst.specs.Words.{lowerAddress}
-use Rattle.machine.specs.Bridge.{Bridge}
-use Rattle.verdict.specs.declared.Cause.{Cause}
-use Rattle.verdict.specs.declared.Cause.the-variants.{Poison, Timeout}
-use Rattle.verdict.specs.declared.Verdict.{Verdict}
-use Rattle.verdict.specs.declared.Verdict.the-variants.{Good, Poisoned, Failed}
-use Rattle.machine.specs.State.{tagCount, withConfig, coreIn, setPieces, setFault, setCause, raisedCore, missingOf, ownerOf, placeOf, counted, shut, freed, slverr}
-use Rattle.machine.specs.Verdict.{causeResponse}
-use Rattle.machine.specs.Completions.{Held, held, faulted, failed, finished, pieceClosed, closed, usefulBytes, memoryCompleted, configDone, configAnswer, configCompleted, isUnexpected}
-use Rattle.machine.specs.Ticks.{isOld, timedOut, expire, expireTo, linkLost, dropSlot, dropSlots}
-use Rattle.trace.proofs.Touch.{Served, good-part, good-last, poison-part, poison-last, failing, served}
+use mathlib.Core.Logic.{_≢_, _⊎_, inl, inr}
+use mathlib.Core.List.{List, [], List·Memᴰ·not-nil}
+use native.Mathlib.Decide.{ℕ-discrete}
+use Rattle.bits.specs.Bits.{isSet, setBit}
+use Rattle.bits.proofs.Bits.{set-sets}
+use Rattle.parts.specs.declared.Core.{Core}
+use Rattle.machine.specs.State.{Bridge, Tag, Slot, tagAt, missingOf, tagCount}
+use Rattle.machine.specs.Completions.{Held}
+use Rattle.machine.specs.Ticks.{expireTo}
+use Rattle.bridge_laws.specs.MemoryLaws.{Tables}
+use Rattle.bridge_laws.specs.Effects.{Acts, Expires, memory, config}
+use Rattle.bridge_laws.proofs.Parts.{same-missing}
+use Rattle.bridge_laws.proofs.Cores.{raised-core}
+use Rattle.bridge_laws.proofs.Effects.{timed-out-expires}
+use Rattle.bridge_laws.proofs.Turns.{each-tag}
+use Rattle.trace.specs.Events.{Event}
+use Rattle.trace.specs.FarSide.{Wire, paired, Some}
+use Rattle.trace.proofs.Wire.{At, ownOf, OpenFine, TagFine, Wired}
 
--- two bridges have the same tags; slots may differ
-pub record TagsSame (b x : Bridge) : Type 0 where
-  pub missing : x .missing ≡ b .missing
-  pub owner : x .owner ≡ b .owner
-  pub place : x .place ≡ b .place
-  pub next : x .next ≡ b .next
-  pub kind : x .kind ≡ b .kind
-  pub free : x .core .free ≡ b .core .free
+-- of the free tags, tag t alone may be new
+abbrev pub FreesAtMost : ℕ → ℕ → ℕ → Type 0
+FreesAtMost t v w = (w ≡ v) ⊎ (w ≡ setBit tagCount v t)
 
-pub tags-same : (b : Bridge) → TagsSame b b
-tags-same b = record { missing = refl; owner = refl; place = refl; next = refl; kind = refl; free = refl }
+bits-kept : {v w : ℕ} (t u : ℕ) → t < tagCount → u ≢ t → FreesAtMost t v w → isSet w u ≡ isSet v u
+bits-kept t u l n (inl e) = ap (λ w. isSet w u) e
+bits-kept {v} t u l n (inr e) = ap (λ w. isSet w u) e ∙ set-sets tagCount v t l .others u n
 
-pub tags-then : (b x y : Bridge) → TagsSame b x → TagsSame x y → TagsSame b y
-tags-then b x y p q =
-    record {
-      missing = q .missing ∙ p .missing;
-      owner = q .owner ∙ p .owner;
-      place = q .place ∙ p .place;
-      next = q .next ∙ p .next;
-      kind = q .kind ∙ p .kind;
-      free = q .free ∙ p .free;
-    }
+module _ (sent : ℕ → List (List ℕ)) where
+  -- ---- one tag
 
-tags-either : (z : Bool) (b x y : Bridge) → TagsSame b x → TagsSame b y → TagsSame b (cond z x y)
-tags-either true b x y p q = p
-tags-either false b x y p q = q
+  -- the row and the free bit are the same
+  pub same-tag : {b x : Bridge} {w : Wire} {es : List Event} {t : ℕ} → tagAt x t ≡ tagAt b t → isSet (x .core .free) t ≡ isSet (b .core .free) t
+      → TagFine sent b w es t → TagFine sent x w es t
+  same-tag {w = w} {es = es} {t = t} e z f =
+      record {
+        quiet = λ s. f .quiet (sym z ∙ s);
+        others = f .others;
+        opens = λ m. subst (λ r. OpenFine sent r w es t) (sym e) (f .opens (λ n. m (same-missing e ∙ n)));
+      }
 
-held-either : (z : Bool) (b : Bridge) (x y : Held) → TagsSame b (x .bridge) → TagsSame b (y .bridge) → TagsSame b (cond z x y .bridge)
-held-either true b x y p q = p
-held-either false b x y p q = q
+  -- ---- all tags
 
--- ---- the verbs on slots
+  pub same-wired : {h x : Held} {w : Wire} {es : List Event} → ((t : ℕ) → tagAt (x .bridge) t ≡ tagAt (h .bridge) t)
+      → x .bridge .core .free ≡ h .bridge .core .free → Wired sent h w es → Wired sent x w es
+  same-wired r z v = record { labels = v .labels; tags = λ t. same-tag (r t) (ap (λ f. isSet f t) z) (v .tags t) }
 
-pub failed-tags : (k place : ℕ) (why : Cause) (b : Bridge) → TagsSame b (failed k place why b)
-unfolding failed faulted raisedCore
-failed-tags k place why b =
-    let f = tags-either (ltb place (getD (b .fault) k 0)) b
-    (setFault k place (setCause k (causeResponse why) b)) b
-    (record { missing = refl; owner = refl; place = refl; next = refl; kind = refl; free = refl }) (tags-same b) in
-    record { missing = f .missing; owner = f .owner; place = f .place; next = f .next; kind = f .kind; free = f .free }
+  -- one row changes
+  pub acts-wired : {h x : Held} {w : Wire} {es : List Event} {t k : ℕ} {f : Tag → Tag} {g : Slot → Slot} {c : Core → Core} → t < tagCount
+      → Acts t k f g c (h .bridge) (x .bridge) → FreesAtMost t (h .bridge .core .free) (c (h .bridge .core) .free)
+      → TagFine sent (x .bridge) w es t → Wired sent h w es → Wired sent x w es
+  acts-wired {h} {x} {w} {es} {t} l a z p v = record { labels = v .labels; tags = λ u. by u (ℕ-discrete u t) }
+    where
+      by : (u : ℕ) → Dec (u ≡ t) → TagFine sent (x .bridge) w es u
+      by u (yes y) = subst (TagFine sent (x .bridge) w es) (sym y) p
+      by u (no n) = same-tag (a .tags u n) (ap (λ (d : Core). isSet (d .free) u) (a .core) ∙ bits-kept t u l n z) (v .tags u)
 
-pub piece-tags : (k : ℕ) (h : Held) → TagsSame (h .bridge) (pieceClosed k h .bridge)
-unfolding pieceClosed finished
-piece-tags k h =
-    held-either (leb (getD (h .bridge .pieces) k 0) 1) (h .bridge) (finished k h)
-    (held (setPieces k (getD (h .bridge .pieces) k 0 - 1) (h .bridge)) (h .store))
-    (record { missing = refl; owner = refl; place = refl; next = refl; kind = refl; free = refl })
-    (record { missing = refl; owner = refl; place = refl; next = refl; kind = refl; free = refl })
+  -- and the tag is as free as it was
+  pub kept-wired : {h x : Held} {w : Wire} {es : List Event} {t k : ℕ} {f : Tag → Tag} {g : Slot → Slot} {c : Core → Core} → t < tagCount
+      → Acts t k f g c (h .bridge) (x .bridge) → c (h .bridge .core) .free ≡ h .bridge .core .free
+      → (f (tagAt (h .bridge) t) .missing ≢ 0 → OpenFine sent (f (tagAt (h .bridge) t)) w es t) → Wired sent h w es → Wired sent x w es
+  kept-wired {w = w} {es = es} {t = t} l a z o v =
+      let n = v .tags t in
+      acts-wired l a (inl z)
+      (record {
+        quiet = λ s. n .quiet (sym (ap (λ (d : Core). isSet (d .free) t) (a .core) ∙ ap (λ f. isSet f t) z) ∙ s);
+        others = n .others;
+        opens = λ m. subst (λ r. OpenFine sent r w es t) (sym (a .tag)) (o (λ y. m (same-missing (a .tag) ∙ y)));
+      }) v
 
--- ---- the verbs on a tag, of bridges with the same tags
+  -- or it is closed and free, and nothing more comes for its request
+  pub freed-wired : {h x : Held} {w : Wire} {es : List Event} {t k : ℕ} {f : Tag → Tag} {g : Slot → Slot} {c : Core → Core} → t < tagCount
+      → Acts t k f g c (h .bridge) (x .bridge) → c (h .bridge .core) .free ≡ setBit tagCount (h .bridge .core .free) t
+      → f (tagAt (h .bridge) t) .missing ≡ 0 → paired (ownOf (w .live) t) es ≡ [] → Wired sent h w es → Wired sent x w es
+  freed-wired {w = w} {es = es} {t = t} l a z m y v =
+      acts-wired l a (inr z)
+      (record { quiet = λ s i p. by i p (ℕ-discrete i (ownOf (w .live) t)); others = v .tags t .others; opens = λ o. absurd (o (same-missing (a .tag) ∙ m)) }) v
+    where
+      by : (i : ℕ) → At i t (w .live) → Dec (i ≡ ownOf (w .live) t) → paired i es ≡ []
+      by i p (yes e) = rw e y
+      by i p (no n) = v .tags t .others i p n
 
-pub shut-tags : (t : ℕ) (b x : Bridge) → TagsSame b x → TagsSame (shut t b) (shut t x)
-unfolding shut
-shut-tags t b x p =
-    record { missing = ap (λ (l : List ℕ). set l t 0) (p .missing); owner = p .owner; place = p .place; next = p .next; kind = p .kind; free = p .free }
+  -- or it is closed and rests
+  expired : {h x : Held} {w : Wire} {es : List Event} {t : ℕ} → t < tagCount → Expires t h x → Wired sent h w es → Tables (x .bridge) × Wired sent x w es
+  expired l (memory o a s) v = (a .tables, kept-wired l a (raised-core _ _ .free) (λ m. absurd (m refl)) v)
+  expired l (config o a s) v = (a 0 .tables, kept-wired l (a 0) (raised-core _ _ .free) (λ m. absurd (m refl)) v)
 
-pub freed-tags : (t : ℕ) (b x : Bridge) → TagsSame b x → TagsSame (freed t b) (freed t x)
-unfolding freed
-freed-tags t b x p =
-    record { missing = p .missing; owner = p .owner; place = p .place; next = p .next; kind = p .kind; free = ap (λ (w : ℕ). setBit tagCount w t) (p .free) }
+  -- time passes: each tag in turn rests, or stays as it is
+  pub time-wired : {w : Wire} {es : List Event} (h : Held) → Tables (h .bridge) → Wired sent h w es → Wired sent (expireTo h tagCount) w es
+  time-wired {w} {es} h b v =
+      each-tag (λ n x. Tables (x .bridge) × Wired sent x w es) h (b, v) (λ n x l e p. p) (λ n x l e p. expired l (timed-out-expires x n (p .0) l) (p .1)) .1
 
-pub counted-tags : (t n : ℕ) (b x : Bridge) → TagsSame b x → TagsSame (counted t n b) (counted t n x)
-unfolding counted
-counted-tags t n b x p =
-    record {
-      missing = ap (λ (l : List ℕ). set l t (getD l t 0 - n)) (p .missing);
-      owner = p .owner;
-      place = ap (λ (l : List ℕ). set l t (getD l t 0 + n)) (p .place);
-      next = ap (λ (l : List ℕ). set l t (lowerAddress (getD l t 0 + n))) (p .next);
-      kind = p .kind;
-      free = p .free;
-    }
-
--- a tag closes: nothing is missing, and it is free
-abbrev pub closing : ℕ → Bridge → Bridge
-closing t b = freed t (shut t b)
-
-pub closed-tags : (t k : ℕ) (b : Bridge) (h : Held) → TagsSame b (h .bridge) → TagsSame (closing t b) (closed t k h .bridge)
-closed-tags t k b h p =
-    let x = held (freed t (shut t (h .bridge))) (h .store) in
-    tags-then (closing t b) (x .bridge) (pieceClosed k x .bridge)
-    (freed-tags t (shut t b) (shut t (h .bridge)) (shut-tags t b (h .bridge) p)) (piece-tags k x)
-
--- ---- a completion for a memory read
-
--- what it does to the tags: the last byte or a failure closes the tag, else it is counted down
-pub data MemoryTags (b : Bridge) (t : ℕ) (x : Bridge) : Verdict → Type 0 where
-  part : {v : Verdict} (n : ℕ) → (v ≡ Good n) ⊎ (v ≡ Poisoned n) → n < missingOf b t → TagsSame (counted t n b) x → MemoryTags b t x v
-  last : {v : Verdict} (n : ℕ) → (v ≡ Good n) ⊎ (v ≡ Poisoned n) → missingOf b t ≤ n → TagsSame (closing t (counted t n b)) x → MemoryTags b t x v
-  bad : {v : Verdict} (why : Cause) → v ≡ Failed why → TagsSame (closing t b) x → MemoryTags b t x v
-
-served-tags : (h : Held) (t k skip : ℕ) (payload : List ℕ) (v : Verdict) (x : Held) → Served h t k skip payload v x → MemoryTags (h .bridge) t (x .bridge) v
-served-tags h t k skip payload v x (good-part n l) = part n (inl refl) l (tags-same (counted t n (h .bridge)))
-served-tags h t k skip payload v x (good-last n l) =
-    let b = counted t n (h .bridge) in
-    last n (inl refl) l
-    (closed-tags t k b (held b (paste (h .store) (4096 * k + placeOf (h .bridge) t) (usefulBytes skip n payload) n)) (tags-same b))
-served-tags h t k skip payload v x (poison-part n l) =
-    let b = failed k (placeOf (h .bridge) t) Poison (h .bridge) in
-    part n (inr refl) l (counted-tags t n (h .bridge) b (failed-tags k (placeOf (h .bridge) t) Poison (h .bridge)))
-served-tags h t k skip payload v x (poison-last n l) =
-    let b = failed k (placeOf (h .bridge) t) Poison (h .bridge) in
-    last n (inr refl) l
-    (closed-tags t k (counted t n (h .bridge)) (held (counted t n b) (h .store)) (counted-tags t n (h .bridge) b (failed-tags k (placeOf (h .bridge) t) Poison (h .bridge))))
-served-tags h t k skip payload v x (failing why) =
-    let b = failed k (placeOf (h .bridge) t) why (h .bridge) in
-    bad why refl (closed-tags t k (h .bridge) (held b (h .store)) (failed-tags k (placeOf (h .bridge) t) why (h .bridge)))
-
-pub memory-tags : (h : Held) (t k skip : ℕ) (payload : List ℕ) (v : Verdict) → isUnexpected v ≡ false → MemoryTags (h .bridge) t (memoryCompleted h t k skip payload v .bridge) v
-memory-tags h t k skip payload v e = served-tags h t k skip payload v (memoryCompleted h t k skip payload v) (served h t k skip payload v e)
-
-pub config-tags : (b : Bridge) (t : ℕ) (payload : List ℕ) (v : Verdict) → TagsSame (closing t b) (configCompleted b t payload v)
-unfolding configCompleted
-config-tags b t payload v =
-    let x = coreIn (withConfig (configAnswer (b .core .config) payload v) (b .core)) b in
-    freed-tags t (shut t b) (shut t x) (shut-tags t b x (record { missing = refl; owner = refl; place = refl; next = refl; kind = refl; free = refl }))
-
--- ---- a tick
-
--- some tags are closed, and none is freed
-pub record Shrunk (b x : Bridge) : Type 0 where
-  pub missing : (t : ℕ) → (missingOf x t ≡ missingOf b t) ⊎ (missingOf x t ≡ 0)
-  pub owner : x .owner ≡ b .owner
-  pub place : x .place ≡ b .place
-  pub next : x .next ≡ b .next
-  pub kind : x .kind ≡ b .kind
-  pub free : x .core .free ≡ b .core .free
-
-pub set-zero : (l : List ℕ) (t u : ℕ) → (getD (set l t 0) u 0 ≡ getD l u 0) ⊎ (getD (set l t 0) u 0 ≡ 0)
-set-zero [] t u = inl refl
-set-zero (y ∷ l) zero zero = inr refl
-set-zero (y ∷ l) zero (suc u) = inl refl
-set-zero (y ∷ l) (suc t) zero = inl refl
-set-zero (y ∷ l) (suc t) (suc u) = set-zero l t u
-
-shrunk-by : (b x : Bridge) (t : ℕ) → TagsSame (shut t b) x → Shrunk b x
-unfolding shut
-shrunk-by b x t p =
-    record {
-      missing = λ u. subst (λ (l : List ℕ). (getD l u 0 ≡ missingOf b u) ⊎ (getD l u 0 ≡ 0)) (sym (p .missing)) (set-zero (b .missing) t u);
-      owner = p .owner;
-      place = p .place;
-      next = p .next;
-      kind = p .kind;
-      free = p .free;
-    }
-
-shrunk-same : (b : Bridge) → Shrunk b b
-shrunk-same b = record { missing = λ t. inl refl; owner = refl; place = refl; next = refl; kind = refl; free = refl }
-
-shrunk-then : (b x y : Bridge) → Shrunk b x → Shrunk x y → Shrunk b y
-shrunk-then b x y p q =
-    record {
-      missing = λ t. go t (p .missing t) (q .missing t);
-      owner = q .owner ∙ p .owner;
-      place = q .place ∙ p .place;
-      next = q .next ∙ p .next;
-      kind = q .kind ∙ p .kind;
-      free = q .free ∙ p .free;
-    }
-  where
-    go : (t : ℕ) → (missingOf x t ≡ missingOf b t) ⊎ (missingOf x t ≡ 0) → (missingOf y t ≡ missingOf x t) ⊎ (missingOf y t ≡ 0) → (missingOf y t ≡ missingOf b t) ⊎ (missingOf y t ≡ 0)
-    go t r (inr e) = inr e
-    go t (inl e) (inl f) = inl (f ∙ e)
-    go t (inr e) (inl f) = inr (f ∙ e)
-
-timed-tags : (t : ℕ) (h : Held) (z : Bool) → ltb (ownerOf (h .bridge) t) 8 ≡ z → TagsSame (shut t (h .bridge)) (timedOut t h .bridge)
-unfolding timedOut raisedCore
-timed-tags t h true z =
-    let k = ownerOf (h .bridge) t in
-    let b = failed k (placeOf (h .bridge) t) Timeout (h .bridge) in
-    let x = held (shut t b) (h .store) in
-    rw z
-    (tags-then (shut t (h .bridge)) (shut t b) (pieceClosed k x .bridge)
-    (shut-tags t (h .bridge) b (failed-tags k (placeOf (h .bridge) t) Timeout (h .bridge))) (piece-tags k x))
-timed-tags t h false z =
-    let b = coreIn (raisedCore 8 (withConfig (configDone (h .bridge .core .config) slverr 0) (h .bridge .core))) (h .bridge) in
-    rw z (shut-tags t (h .bridge) b (record { missing = refl; owner = refl; place = refl; next = refl; kind = refl; free = refl }))
-
-expire-tags : (h : Held) (t : ℕ) (z : Bool) → isOld (h .bridge) t ≡ z → Shrunk (h .bridge) (expire h t .bridge)
-unfolding expire
-expire-tags h t true z = rw z (shrunk-by (h .bridge) (timedOut t h .bridge) t (timed-tags t h (ltb (ownerOf (h .bridge) t) 8) refl))
-expire-tags h t false z = rw z (shrunk-same (h .bridge))
-
-pub expires-tags : (h : Held) (n : ℕ) → Shrunk (h .bridge) (expireTo h n .bridge)
-unfolding expireTo
-expires-tags h zero = shrunk-same (h .bridge)
-expires-tags h (suc n) =
-    let x = expireTo h n in
-    shrunk-then (h .bridge) (x .bridge) (expire x n .bridge) (expires-tags h n) (expire-tags x n (isOld (x .bridge) n) refl)
-
--- ---- the link goes down
-
-drop-missing : (h : Held) (k : ℕ) (z : Bool) → eqb (getD (h .bridge .state) k 0) 1 ≡ z → dropSlot h k .bridge .missing ≡ h .bridge .missing
-unfolding dropSlot
-drop-missing h k true z = rw z
-drop-missing h k false z = rw z
-
-drops-missing : (h : Held) (n : ℕ) → dropSlots h n .bridge .missing ≡ h .bridge .missing
-unfolding dropSlots
-drops-missing h zero = refl
-drops-missing h (suc n) = drop-missing (dropSlots h n) n (eqb (getD (dropSlots h n .bridge .state) n 0) 1) refl ∙ drops-missing h n
-
-zeros : (n t : ℕ) → _≡_ {A = ℕ} (getD (replicate n 0) t 0) 0
-zeros zero t = refl
-zeros (suc n) zero = refl
-zeros (suc n) (suc t) = zeros n t
-
-pub lost-tags : (h : Held) (t : ℕ) → missingOf (dropSlots (held (linkLost (h .bridge)) (h .store)) 8 .bridge) t ≡ 0
-unfolding linkLost
-lost-tags h t = ap (λ (l : List ℕ). getD l t 0) (drops-missing (held (linkLost (h .bridge)) (h .store)) 8) ∙ zeros tagCount t
+  -- nothing is on the wire, and no tag is open
+  pub bare-wired : {x : Held} {es : List Event} (n : ℕ) → ((i : ℕ) → n ≤ i → Some (paired i es) (sent i)) → ((t : ℕ) → missingOf (x .bridge) t ≡ 0)
+      → Wired sent x (record { count = n; live = [] }) es
+  bare-wired n f z =
+      record {
+        labels = record { known = λ i t a. absurd (List·Memᴰ·not-nil a); once = λ i t u a c. absurd (List·Memᴰ·not-nil a); future = f };
+        tags = λ t. record {
+          quiet = λ s i a. absurd (List·Memᴰ·not-nil a);
+          others = λ i a. absurd (List·Memᴰ·not-nil a);
+          opens = λ m. absurd (m (z t));
+        };
+      }
