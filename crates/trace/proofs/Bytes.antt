@@ -12,6 +12,7 @@ use Rattle.burst.specs.declared.Burst.{Burst}
 use Rattle.burst.specs.Bursts.{lengthOf}
 use Rattle.burst.specs.Pieces.{addresses}
 use Rattle.burst.proofs.Pieces.{accepted-covers}
+use Rattle.burst.proofs.Tiling.{piece-not-empty}
 use Rattle.refusals.specs.declared.Response.{Response}
 use Rattle.refusals.specs.declared.Response.the-variants.{Okay}
 use Rattle.machine.specs.State.{Bridge, tagAt, freeSlot, responseOf, accepted}
@@ -30,7 +31,7 @@ use Rattle.trace.proofs.Settling.{state-below}
 use Rattle.trace.proofs.Turn.{no-path}
 use Rattle.trace.proofs.Wire.{ownOf, Wired}
 use Rattle.trace.proofs.Asks.{own-new, answered-at}
-use Rattle.trace.proofs.Opened.{turns, turns-many, turn-is, limit-some, piece-fits, free-slot-free, opens-read, turns-distinct}
+use Rattle.trace.proofs.Opened.{turns, turns-many, turn-is, limit-some, free-slot-free, opens-read, turns-distinct}
 use Rattle.trace.proofs.Wired.{step-wired, reach-start}
 use Rattle.trace.proofs.Joined.{joined}
 use Rattle.trace.proofs.Put.{either}
@@ -62,7 +63,9 @@ module _ (sent : ℕ → List (List ℕ)) (h : Held) (q : Burst) (room : ℕ) (s
 
   -- the tag of piece j waits for the j-th request
   waits-at : (j : ℕ) → j < count taken → Waits (freeSlot (h .bridge)) x (tagOf (h .bridge) j)
-  waits-at j g = (λ y. omega (arith, opens-read sent h q room s e .missing j g, piece-fits (h .bridge) q room j (s .right) e g .some), opens-read sent h q room s e .owner j g)
+  waits-at j g =
+      let some = accepted-covers q (read-ok (h .bridge) q room e .burst) .some in
+      (λ y. omega (arith, opens-read sent h q room s e .missing j g, piece-not-empty (h .bridge .settings .reads) (q .start .0) (lengthOf q) j (taken .some) some g), opens-read sent h q room s e .owner j g)
 
   own-at : (j : ℕ) → j < count taken → ownOf (z .live) (tagOf (h .bridge) j) ≡ w .count + j
   own-at j g =
@@ -109,10 +112,6 @@ okay-cause h k small a =
     by-cases (ℕ-discrete n 0) (λ z. z) (λ d. either (λ (x : Response). x ≡ Okay → n ≡ 0) (eqb n 3) (λ g. no-path (cc)) (λ g. no-path (cc)) (rw (ne-eqb n 0 d) at e))
 
 module _ (r : Read) (h : Held) (s : Sound h) (a : AnsweredOkay (r .slot) h) where
-  -- no tag waits any more
-  none : (t : ℕ) → Waits (r .slot) (h .bridge) t → ⊥
-  none t m = omega (arith, waits-open (r .slot) t s (r .small) m, state-below (h .bridge) (r .slot) (r .small), passed (length (h .store)) (stateOf (h .bridge) (r .slot)) (a .answered) .finished)
-
   holds : (w : Wire) → Stage r h w []
       → (looked (h .bridge) (h .store) (r .slot) ≡ flatMap (λ (j : ℕ). bytesSent (pieceOf (r .limit) (r .burst) j .length) (r .sent (r .first + j))) (addresses 0 (count r)))
       × (length (looked (h .bridge) (h .store) (r .slot)) ≡ lengthOf (r .burst))
@@ -120,7 +119,8 @@ module _ (r : Read) (h : Held) (s : Sound h) (a : AnsweredOkay (r .slot) h) wher
   holds w (spoilt y) = absurd (y .cause (okay-cause h (r .slot) (r .small) a))
   holds w (clean c) =
       let p = look-at-slot (h .bridge) (h .store) (r .slot) (a .answered) (r .small) in
-      let whole : (j : ℕ) → j < count r → Whole r (h .store) j = λ j l. c .whole j l (λ t m. absurd (none t m)) in
+      let done = passed (length (h .store)) (stateOf (h .bridge) (r .slot)) (a .answered) .finished in
+      let whole : (j : ℕ) → j < count r → Whole r (h .store) j = λ j l. c .whole j l (λ t m. absurd (omega (arith, waits-open (r .slot) t s (r .small) m, state-below (h .bridge) (r .slot) (r .small)))) in
       let z : length (looked (h .bridge) (h .store) (r .slot)) ≡ lengthOf (r .burst) = omega (arith, p .size, c .slot .size, r .most) in (
         joined (r .limit) (r .burst .start .0) (lengthOf (r .burst)) (r .some) (part r) (looked (h .bridge) (h .store) (r .slot)) z (λ j l. whole j l .exact)
             (λ j y l g. p .at (place r j + y) (omega (arith, c .slot .size, r .most, inside r j l)) ∙ whole j l .bytes y g),

@@ -1,5 +1,5 @@
 -- A finished answer along a list of events.
-use Prim.Native.Nat.{ℕ, _≤_, _<_, min}
+use Prim.Native.Nat.{ℕ, _≤_, _<_}
 use mathlib.Core.Path.{_≡_, refl, sym, ap, _∙_}
 use mathlib.Core.Logic.{_≢_, by-cases}
 use mathlib.Core.List.{List, [], _∷_}
@@ -110,7 +110,7 @@ state-stays : (k : ℕ) (h x : Held) → stateOf (h .bridge) k ≡ 2 → AnswerS
 state-stays k h x e a =
     by-cases (decLt k 8) (λ l. omega (arith, state-below (x .bridge) k l, a .slot l .state, state-below (h .bridge) k l)) (λ n.
     let z : k ≡ 8 = omega (arith, in-range (h .bridge) k e) in
-    state-config (x .bridge) k z ∙ (ap (λ (c : ConfigSlot). c .state) (a .config z) ∙ (sym (state-config (h .bridge) k z) ∙ e)))
+    omega (arith, state-config (x .bridge) k z, ap (λ (c : ConfigSlot). c .state) (a .config z), state-config (h .bridge) k z))
 
 run-stays : (later : List Event) (k : ℕ) (h : Held) → Sound h → Answered k h → Untaken k h later → AnswerSame k h (run h later) × Answered k (run h later)
 run-stays [] k h g a u = (answer-same k h, a)
@@ -131,10 +131,8 @@ module _ (k : ℕ) (h x : Held) (p : AnswerSame k h x) (a : Answered k h) (b : A
   shown-look (yes l) =
       let i = take.look-at-slot (h .bridge) (h .store) k a l in
       let j = take.look-at-slot (x .bridge) (x .store) k b l in
-      let n : sizeOf (x .bridge) k ≡ sizeOf (h .bridge) k = ap (λ (y : ℕ). min y 4096) (p .slot l .size) in
-      ext-getD 0 (looked (x .bridge) (x .store) k) (looked (h .bridge) (h .store) k) (j .size ∙ (n ∙ sym (i .size)))
-      (λ y m. let c : y < sizeOf (x .bridge) k = omega (arith, m, j .size) in
-      j .at y c ∙ (p .slot l .bytes y (omega arith) ∙ sym (i .at y (omega arith))))
+      ext-getD 0 (looked (x .bridge) (x .store) k) (looked (h .bridge) (h .store) k) (omega (arith, i .size, j .size, p .slot l .size))
+      (λ y m. let c : y < sizeOf (x .bridge) k = omega (arith, j .size) in j .at y c ∙ (p .slot l .bytes y (omega arith) ∙ sym (i .at y (omega (arith, p .slot l .size)))))
   shown-look (no n) =
       let e = config-slot (omega arith) in
       ap (looked (x .bridge) (x .store)) e ∙ (take.look-at-config (x .bridge) (x .store) ∙ (sym (take.look-at-config (h .bridge) (h .store)) ∙ ap (looked (h .bridge) (h .store)) (sym e)))

@@ -7,13 +7,12 @@ use mathlib.Core.Bool.{Bool, true, false}
 use native.Mathlib.Omega.{arith}
 use native.Mathlib.Decide.{ℕ-discrete}
 use lib.ListN.{length, getD, drop}
-use lib.Dec.{eqb}
 use borrow.Author.Tests.{eq-eqb, ne-eqb}
 use Rattle.common.proofs.Tests.{and-left}
 use Rattle.parts.specs.declared.Core.{Core}
-use Rattle.machine.specs.State.{slotAt, withTicks, coreIn, missingOf, ownerOf, placeOf, sentOf, isOpen}
+use Rattle.machine.specs.State.{slotAt, withTicks, coreIn, missingOf, ownerOf, placeOf, isOpen}
 use Rattle.machine.specs.Completions.{storeSize, Held, held}
-use Rattle.machine.specs.Ticks.{nextTick, ageOf, isOld, timedOut, linked}
+use Rattle.machine.specs.Ticks.{nextTick, isOld, timedOut, linked}
 use Rattle.machine.specs.Take.{stateOf, takeRefusal}
 use Rattle.machine.proofs.Judging.{never, open-room}
 use Rattle.bridge_laws.specs.MemoryLaws.{Tables}
@@ -55,20 +54,17 @@ module _ (r : Read) where
 
   record Lasts (w : Wire) (es : List Event) (h : Held) : Type 0 where
     stage : Stage r h w es
-    tables : Tables (h .bridge)
-    room : storeSize ≤ length (h .store)
+    sizes : Tables (h .bridge) × (storeSize ≤ length (h .store))
 
   lapse : (w : Wire) (es : List Event) (t : ℕ) (h x : Held) → isOld (h .bridge) t ≡ true → Expires t h x → Lasts w es h → Lasts w es x
   lapse w es t h x o p v =
-      let f = and-left (isOpen (missingOf (h .bridge) t) (placeOf (h .bridge) t)) (eqb (ageOf (h .bridge .core .ticks) (sentOf (h .bridge) t)) (h .bridge .settings .limit)) o in
+      let f = and-left (isOpen (missingOf (h .bridge) t) (placeOf (h .bridge) t)) _ o in
       let z = open-missing (missingOf (h .bridge) t) (placeOf (h .bridge) t) f in
       let low : placeOf (h .bridge) t < 4096 = omega (arith, open-room (missingOf (h .bridge) t) (placeOf (h .bridge) t) f) in
-      let q = expires-sizes r h w t x (v .room) p in
       record {
         stage = by-cases (ℕ-discrete (ownerOf (h .bridge) t) (r .slot)) (λ e. lapses r h x w es t low e p (v .stage))
-            (λ n. stage-stays r (λ i n a m y. y) (expires-aside r h w t x (v .room) n p) (v .stage));
-        tables = q .0;
-        room = q .1;
+            (λ n. stage-stays r (λ i n a m y. y) (expires-aside r h w t x (v .sizes .1) n p) (v .stage));
+        sizes = expires-sizes r h w t x (v .sizes .1) p;
       }
 
   -- ---- the link
@@ -117,8 +113,8 @@ module _ (r : Read) where
       pass (other-slot r h w x a (a .slot) (λ z. omega (arith, r .small)) (same-owner (a .tag)) (λ i k. refl)) v
   move-stage h e x ticks eq w es g y p u v =
       let now = held (coreIn (withTicks (nextTick (h .bridge .core .ticks)) (h .bridge .core)) (h .bridge)) (h .store) in
-      each-tag (λ n. Lasts w es) now (record { stage = pass (still r h w _) v; tables = omega (arith, g .sizes); room = g .room }) (λ n x m o y. y)
-      (λ n x m o y. lapse w es n x (timedOut n x) o (timed-out-expires x n (y .tables) m) y) .stage
+      each-tag (λ n. Lasts w es) now (record { stage = pass (still r h w _) v; sizes = (omega (arith, g .sizes), g .room) }) (λ n x m o y. y)
+      (λ n x m o y. lapse w es n x (timedOut n x) o (timed-out-expires x n (y .sizes .0) m) y) .stage
   move-stage h e x (drops l) eq w es g y p u v = drop-stage h x w (wireAfter w h (event.link false)) es g (drop-loses h (tables g)) eq v
   move-stage h e x (links up o) eq w es g y p u v = link-stage h up _ w es g o v
   move-stage h e x (releases {k = j} d) eq w es g y p u v = pass (release-aside r h w g j (release-other (r .slot) j h u d)) v

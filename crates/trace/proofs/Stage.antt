@@ -1,4 +1,4 @@
--- One read, from the time it is accepted: of each piece a tag waits, or all its bytes are in place; unless a piece has failed.
+-- One read, from the time it is accepted: unless a piece has failed, a tag waits for each piece, or its bytes are in place.
 use Prim.Native.Nat.{ℕ, _+_, _*_, _≤_, _<_}
 use mathlib.Core.Path.{_≡_, sym, subst, _∙_}
 use mathlib.Core.Logic.{_≢_}
@@ -101,7 +101,7 @@ module _ (r : Read) where
   abbrev pub Right : List ℕ → ℕ → ℕ → Type 0
   Right store j x = getD store (4096 * r .slot + (place j + x)) 0 ≡ getD (part j) x 0
 
-  -- of piece j a tag waits, with this row, for the request with this number: the bytes before the tag's place have come
+  -- a tag waits for piece j, with this row and its request's number: the bytes before the tag's place have come
   pub record Mine (store : List ℕ) (es : List Event) (number : ℕ) (t : Tag) (j : ℕ) : Type 0 where
     pub own : number ≡ r .first + j
     pub next : ℕ
@@ -114,6 +114,7 @@ module _ (r : Read) where
     pub exact : length (part j) ≡ piece j .length
     pub bytes : (x : ℕ) → x < piece j .length → Right store j x
 
+  -- no piece has failed: each tag of the slot waits for a piece, and a piece for whose request none waits has come
   pub record Clean (h : Held) (w : Wire) (es : List Event) : Type 0 where
     pub slot : Sane (lengthOf (r .burst)) (slotAt (h .bridge) (r .slot))
     pub mine : (t : ℕ) → Waits (r .slot) (h .bridge) t → (j : ℕ) × (j < count) × Mine (h .store) es (ownOf (w .live) t) (tagAt (h .bridge) t) j
@@ -146,7 +147,7 @@ module _ (r : Read) where
     pub own : (t : ℕ) → Waits (r .slot) (h .bridge) t → ownOf (z .live) t ≡ ownOf (w .live) t
     pub back : (t : ℕ) → Waits (r .slot) (x .bridge) t → Waits (r .slot) (h .bridge) t
 
-  -- what is still to come may be less
+  -- what was still to come for a request is so after an event, but for what has come
   abbrev pub Later : List Event → List Event → Type 0
   Later fs es = (i n a m : ℕ) → Flow (r .sent) fs i n a m → Flow (r .sent) es i n a m
 
