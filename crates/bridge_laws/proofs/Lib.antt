@@ -6,6 +6,7 @@ pub mod Effects
 pub mod Turns
 pub mod EachRow
 pub mod ReadTurns
+pub mod BothTurns
 -- A fresh bridge, configuration accesses, taking an answer.
 pub mod FreshLaws
 pub mod ConfigLaws

@@ -1,198 +1,121 @@
 -- Refusals, and what is sent and shown, are the same in two bridges alike.
-use Prim.Native.Nat.{ℕ, zero, suc, _<_}
-use mathlib.Core.Path.{_≡_, refl, sym, ap, _∙_}
-use mathlib.Core.List.{List, [], _∷_, _++_}
-use mathlib.Core.Bool.{Bool, true, false, cond, not, _&&_}
+use Prim.Native.Nat.{ℕ, _<_, min}
+use mathlib.Core.Path.{_≡_, sym, ap, _∙_}
+use mathlib.Core.Logic.{_⊎_, inl, inr}
+use mathlib.Core.Bool.{cond, not, _&&_}
 use native.Mathlib.Omega.{arith}
-use lib.ListN.{length, getD}
+use native.Mathlib.Decide.{ℕ-discrete, decLt}
+use lib.ListN.{length}
 use lib.Seq.{ext-getD}
-use lib.Dec.{eqb, ltb, leb}
-use borrow.Author.Tests.{eqb-true, ltb-true, le-ltb}
-use Rattle.refusals.specs.Table.{refusedBy, readOrder, writeOrder, configOrder}
-use Rattle.tags.specs.Tags.{lowest, available}
-use Rattle.address.specs.declared.Settings.{Settings}
-use Rattle.address.specs.Windows.{foundNumber}
-use Rattle.ecam.specs.declared.Registers.{Registers}
-use Rattle.ecam.specs.declared.Route.{Route}
-use Rattle.ecam.specs.Route.{route, numberOf}
+use lib.Dec.{eqb, ltb}
+use borrow.Author.Tests.{lt-ltb, le-ltb}
+use Rattle.address.specs.Settings.{settingsNumber}
 use Rattle.burst.specs.declared.Burst.{Burst}
-use Rattle.burst.specs.Bursts.{burstNumber, dataNumber}
+use Rattle.parts.specs.declared.Answer.{Answer}
 use Rattle.parts.specs.declared.ConfigSlot.{ConfigSlot}
-use Rattle.machine.specs.Bridge.{Bridge}
-use Rattle.machine.specs.State.{tagCount, slotCount, slotFree, slotOpen, freeSlot}
-use Rattle.machine.specs.Memory.{areaSize, windowFor, piecesOf, pieceOf, pieceRequest, packet, readRefusal, claimed, readTo, readSent, readBytes, writeRefusal}
-use Rattle.machine.specs.Config.{Access, routeOf, goesOut, configNumber, configRefusal, routedRequest, payloadOf, configBytes}
+use Rattle.machine.specs.State.{Bridge, Slot, slotAt, slotState, failureOf, slotCount, slotSize, slotOpen, configSlot, accepted, responseOf}
+use Rattle.machine.specs.Memory.{readRefusal, readBytes, writeRefusal}
+use Rattle.machine.specs.Config.{Access, routeOf, configNumber, configRefusal, configBytes}
 use Rattle.machine.specs.Completions.{storeSize, Held, sizeOf}
-use Rattle.machine.specs.Take.{stateIn, stateOf, takeNumber, takeRefusal, looked}
-use Rattle.bridge_laws.proofs.TakeLaws.{look-at-slot}
-use Rattle.trace.proofs.Settling.{state-below}
-use Rattle.trace.proofs.AlikeTables.{also, also-here}
-use Rattle.trace.proofs.AlikeTwin.{Twin}
-use Rattle.trace.proofs.AlikeOpening.{read-to-twin, claimed-twin, slot-same}
-use Rattle.trace.proofs.AlikeStores.{Pair, size-same}
+use Rattle.machine.specs.Take.{stateOf, takeNumber, takeRefusal, looked}
+use Rattle.bridge_laws.proofs.TakeLaws.{passed, take-refused, look-at-slot, look-at-config}
+use Rattle.bridge_laws.proofs.Sends.{accepted-read-sends}
+use Rattle.trace.proofs.Settling.{state-below, state-config, state-above}
+use Rattle.trace.proofs.AlikeTwin.{ConfigsLike, equal, unused, like-number, like-equal, Twin}
+use Rattle.trace.proofs.AlikeStores.{Pair}
+use Rattle.trace.proofs.AlikeReads.{states-same, slot-same}
 
--- ---- refusals of requests
+-- ---- refusals of requests, and bytes sent
 
--- what a read's refusal looks at
-abbrev readTests : Settings → Registers → Bool → ℕ → ℕ → Burst → ℕ → ℕ
-readTests s r busy slot free q room =
-    refusedBy readOrder
-    (ltb room areaSize
-    ∷ not (eqb (burstNumber q) 0)
-    ∷ not (eqb (foundNumber (windowFor (s .windows) q)) 0)
-    ∷ not (r .link)
-    ∷ busy
-    ∷ leb slotCount slot
-    ∷ ltb (available tagCount free) (piecesOf (s .reads) q)
-    ∷ [])
+-- an open configuration read
+busy-same : {c d : ConfigSlot} → ConfigsLike c d → eqb (c .state) slotOpen && not (c .write) ≡ eqb (d .state) slotOpen && not (d .write)
+busy-same (equal e) = rw e
+busy-same (unused e f) = rw (e, f)
 
-abbrev busyIn : ConfigSlot → Bool
-busyIn c = eqb (c .state) slotOpen && not (c .write)
-
-abbrev writeTests : Settings → Registers → Burst → ℕ → ℕ → ℕ
-writeTests s r q len room =
-    refusedBy writeOrder
-    (ltb room areaSize
-    ∷ not (eqb (burstNumber q) 0)
-    ∷ not (eqb (foundNumber (windowFor (s .windows) q)) 0)
-    ∷ not (eqb (dataNumber q len) 0)
-    ∷ not (r .link)
-    ∷ [])
-
-abbrev configTests : ℕ → Registers → ℕ → Route → ℕ → ℕ
-configTests state r free x room =
-    refusedBy (configOrder (numberOf x))
-    (ltb room areaSize
-    ∷ not (eqb state slotFree)
-    ∷ not (eqb (numberOf x) 0)
-    ∷ (goesOut x && not (r .link))
-    ∷ (goesOut x && eqb (available tagCount free) 0)
-    ∷ [])
-
-module _ (o l : ℕ → Bool) (u : Bool) (x y : Bridge) (p : Twin o l u x y) where
-  busy-same : busyIn (x .core .config) ≡ busyIn (y .core .config)
-  busy-same = go (eqb (x .core .config .state) 1) refl
-    where
-      go : (z : Bool) → eqb (x .core .config .state) 1 ≡ z → busyIn (x .core .config) ≡ busyIn (y .core .config)
-      go true z =
-          let w : x .core .config .state ≡ 1 = eqb-true _ _ z in
-          ap busyIn (p .core .config (p .core .used (λ n. absurd (omega (arith, w, n)))))
-      go false z =
-          let w : eqb (y .core .config .state) 1 ≡ false = ap (λ (n : ℕ). eqb n 1) (sym (p .core .state)) ∙ z in
-          rw (z, w)
-
+module _ {x y : Bridge} (p : Twin x y) where
   pub read-same : (q : Burst) (room : ℕ) → readRefusal x q room ≡ readRefusal y q room
   unfolding readRefusal
-  read-same q room =
-      ap (λ (s : Settings). readTests s (x .core .registers) (busyIn (x .core .config)) (freeSlot x) (x .core .free) q room) (p .settings)
-      ∙ (ap (λ (r : Registers). readTests (y .settings) r (busyIn (x .core .config)) (freeSlot x) (x .core .free) q room) (p .core .registers)
-      ∙ (ap (λ (b : Bool). readTests (y .settings) (y .core .registers) b (freeSlot x) (x .core .free) q room) busy-same
-      ∙ (ap (λ (k : ℕ). readTests (y .settings) (y .core .registers) (busyIn (y .core .config)) k (x .core .free) q room) (slot-same o l u x y p)
-      ∙ ap (λ (f : ℕ). readTests (y .settings) (y .core .registers) (busyIn (y .core .config)) (freeSlot y) f q room) (p .core .free))))
+  read-same q room = rw (p .settings, p .core .registers, p .core .free, busy-same (p .core .config), slot-same p)
 
   pub write-same : (q : Burst) (len room : ℕ) → writeRefusal x q len room ≡ writeRefusal y q len room
   unfolding writeRefusal
-  write-same q len room =
-      ap (λ (s : Settings). writeTests s (x .core .registers) q len room) (p .settings)
-      ∙ ap (λ (r : Registers). writeTests (y .settings) r q len room) (p .core .registers)
+  write-same q len room = rw (p .settings, p .core .registers)
 
   pub route-same : (a : Access) → routeOf x a ≡ routeOf y a
-  route-same a =
-      ap (λ (s : Settings). route (s .bits) (x .core .registers) (a .offset)) (p .settings)
-      ∙ ap (λ (r : Registers). route (y .settings .bits) r (a .offset)) (p .core .registers)
+  route-same a = rw (p .settings, p .core .registers)
 
   pub config-same : (a : Access) (room : ℕ) → configRefusal x a room ≡ configRefusal y a room
   unfolding configNumber
-  config-same a room =
-      ap (λ (n : ℕ). configTests n (x .core .registers) (x .core .free) (routeOf x a) room) (p .core .state)
-      ∙ (ap (λ (r : Registers). configTests (y .core .config .state) r (x .core .free) (routeOf x a) room) (p .core .registers)
-      ∙ (ap (λ (f : ℕ). configTests (y .core .config .state) (y .core .registers) f (routeOf x a) room) (p .core .free)
-      ∙ ap (λ (z : Route). configTests (y .core .config .state) (y .core .registers) (y .core .free) z room) (route-same a)))
-
-  -- ---- bytes sent
-
-  abbrev routedBy : Route → Access → Settings → ℕ → List ℕ
-  routedBy r a s f =
-      cond (goesOut r) (packet (routedRequest r a (s .requester) (lowest tagCount f)) (payloadOf (a .write) (a .word))) []
+  config-same a room = rw (route-same a, p .core .registers, p .core .free, like-number (p .core .config))
 
   pub config-bytes : (a : Access) → configBytes x a ≡ configBytes y a
-  config-bytes a =
-      ap (λ (r : Route). routedBy r a (x .settings) (x .core .free)) (route-same a)
-      ∙ (ap (λ (s : Settings). routedBy (routeOf y a) a s (x .core .free)) (p .settings)
-      ∙ ap (λ (f : ℕ). routedBy (routeOf y a) a (y .settings) f) (p .core .free))
+  config-bytes a = rw (route-same a, p .settings, p .core .free)
 
-  abbrev sentWith : Settings → Burst → ℕ → ℕ → List ℕ
-  sentWith s q k f = packet (pieceRequest false s q (lowest tagCount f) (pieceOf (s .reads) q k)) []
-
-  sent-same : (slot : ℕ) (q : Burst) (k : ℕ) → slot < 8 → l slot ≡ true → readSent slot q x k ≡ readSent slot q y k
-  unfolding readSent
-  sent-same slot q zero h e = refl
-  sent-same slot q (suc k) h e =
-      ap (λ (z : List ℕ). z ++ sentWith (x .settings) q k (readTo slot q x k .core .free)) (sent-same slot q k h e)
-      ∙ (ap (λ (s : Settings). readSent slot q y k ++ sentWith s q k (readTo slot q x k .core .free)) (p .settings)
-      ∙ ap (λ (f : ℕ). readSent slot q y k ++ sentWith (y .settings) q k f) (read-to-twin o l u x y slot q k h e p .core .free))
-
-pub read-bytes : (o l : ℕ → Bool) (u : Bool) (x y : Bridge) (q : Burst) → freeSlot x < 8 → Twin o l u x y → readBytes x q ≡ readBytes y q
-read-bytes o l u x y q h p =
-    sent-same o (also l (freeSlot x)) u (claimed (freeSlot x) q x) (claimed (freeSlot x) q y) (claimed-twin o l u x y (freeSlot x) q h p) (freeSlot x) q (piecesOf (x .settings .reads) q) h (also-here l (freeSlot x))
-    ∙ (ap (λ (k : ℕ). readSent k q (claimed k q y) (piecesOf (x .settings .reads) q)) (slot-same o l u x y p)
-    ∙ ap (λ (s : Settings). readSent (freeSlot y) q (claimed (freeSlot y) q y) (piecesOf (s .reads) q)) (p .settings))
+  -- the tags that a read takes are those that are free
+  pub read-bytes : (q : Burst) (room : ℕ) → settingsNumber (x .settings) ≡ 0 → readRefusal x q room ≡ 0 → readBytes x q ≡ readBytes y q
+  read-bytes q room r e =
+      let a = accepted-read-sends x q room r e in
+      let b = accepted-read-sends y q room (rw (p .settings) at r) (sym (read-same q room) ∙ e) in
+      rw (a .sent, b .sent, p .settings, p .core .free)
 
 -- ---- taking an answer
 
--- an accepted take finds a finished slot
-pub take-found : (room found : ℕ) → takeNumber room found ≡ 0 → found ≡ 2
-unfolding takeNumber
-take-found room found e = go (ltb room storeSize) (eqb found 2) refl e
-  where
-    go : (a b : Bool) → eqb found 2 ≡ b → _≡_ {A = ℕ} (cond a 8 (cond (not b) 14 0)) 0 → found ≡ 2
-    go true b z w = absurd (omega arith)
-    go false true z w = eqb-true _ _ z
-    go false false z w = absurd (omega arith)
-
-empty-part : (b : Bridge) (store : List ℕ) (k : ℕ) → eqb (takeRefusal b (length store) k) 0 ≡ false → looked b store k ≡ []
-unfolding looked
-empty-part b store k z = rw z
-
-past-part : (b : Bridge) (store : List ℕ) (k : ℕ) → ltb k 8 ≡ false → looked b store k ≡ []
-unfolding looked
-past-part b store k z = rw z (go (eqb (takeRefusal b (length store) k) 0))
-  where
-    go : (a : Bool) → _≡_ {A = List ℕ} (cond a [] []) []
-    go true = refl
-    go false = refl
-
-module _ (h g : Held) (p : Pair h g) where
-  pub state-same : (k : ℕ) → stateOf (h .bridge) k ≡ stateOf (g .bridge) k
-  state-same k =
-      ap (λ (n : ℕ). stateIn n (h .bridge .state) k) (p .twin .core .state)
-      ∙ ap (λ (s : List ℕ). stateIn (g .bridge .core .config .state) s k) (p .twin .slots .state)
-
-  pub take-same : (k : ℕ) → takeRefusal (h .bridge) (length (h .store)) k ≡ takeRefusal (g .bridge) (length (g .store)) k
+module _ {h g : Held} (p : Pair h g) (k : ℕ) where
+  pub take-same : takeRefusal (h .bridge) (length (h .store)) k ≡ takeRefusal (g .bridge) (length (g .store)) k
   unfolding takeNumber
-  take-same k =
-      rw (state-same k, le-ltb (length (h .store)) storeSize (p .stores .early), le-ltb (length (g .store)) storeSize (p .stores .late))
+  take-same =
+      rw (le-ltb (length (h .store)) storeSize (p .early), le-ltb (length (g .store)) storeSize (p .late), like-number (p .twin .core .config), states-same (p .twin))
 
-  -- the slot of an accepted take
-  pub found-done : (k : ℕ) → takeRefusal (h .bridge) (length (h .store)) k ≡ 0 → k < 8 → getD (h .bridge .state) k 0 ≡ 2
-  found-done k e b = sym (state-below (h .bridge) k b) ∙ take-found (length (h .store)) (stateOf (h .bridge) k) e
+  -- an accepted take finds a finished slot
+  module _ (e : takeRefusal (h .bridge) (length (h .store)) k ≡ 0) where
+    found : stateOf (h .bridge) k ≡ 2
+    found = passed (length (h .store)) (stateOf (h .bridge) k) e .finished
 
-  pub found-used : (k : ℕ) → takeRefusal (h .bridge) (length (h .store)) k ≡ 0 → k < 8 → p .l k ≡ true
-  found-used k e b = p .twin .slots .used k (λ n. absurd (omega (arith, n, found-done k e b)))
+    done : k < slotCount → slotState (h .bridge) k ≡ 2
+    done l = sym (state-below (h .bridge) k l) ∙ found
 
-  slot-part : (k : ℕ) → takeRefusal (h .bridge) (length (h .store)) k ≡ 0 → k < 8 → looked (h .bridge) (h .store) k ≡ looked (g .bridge) (g .store) k
-  slot-part k e b =
-      let a = look-at-slot (h .bridge) (h .store) k e b in
-      let c = look-at-slot (g .bridge) (g .store) k (sym (take-same k) ∙ e) b in
-      let n : sizeOf (h .bridge) k ≡ sizeOf (g .bridge) k = size-same (p .o) (p .l) (p .u) (h .bridge) (g .bridge) k (found-used k e b) (p .twin) in
-      ext-getD 0 (looked (h .bridge) (h .store) k) (looked (g .bridge) (g .store) k) (a .size ∙ (n ∙ sym (c .size)))
-      (λ i w. let z : i < sizeOf (h .bridge) k = rw (a .size) at w in
-      a .at i z ∙ (p .stores .slots k b .done (found-done k e b) i z ∙ sym (c .at i (rw n at z))))
+    row-same : k < slotCount → slotAt (h .bridge) k ≡ slotAt (g .bridge) k
+    row-same l = like-equal (p .twin .slots k l) (λ z. omega (arith, z, done l))
 
-  pub looked-same : (k : ℕ) → looked (h .bridge) (h .store) k ≡ looked (g .bridge) (g .store) k
-  looked-same k = go (eqb (takeRefusal (h .bridge) (length (h .store)) k) 0) (ltb k 8) refl refl
+    slot-part : k < slotCount → looked (h .bridge) (h .store) k ≡ looked (g .bridge) (g .store) k
+    slot-part l =
+        let a = look-at-slot (h .bridge) (h .store) k e l in
+        let c = look-at-slot (g .bridge) (g .store) k (sym take-same ∙ e) l in
+        let n : sizeOf (h .bridge) k ≡ sizeOf (g .bridge) k = ap (λ (s : Slot). min (s .size) slotSize) (row-same l) in
+        ext-getD 0 (looked (h .bridge) (h .store) k) (looked (g .bridge) (g .store) k) (a .size ∙ (n ∙ sym (c .size)))
+        (λ i w. let z : i < sizeOf (h .bridge) k = rw (a .size) at w in
+        a .at i z ∙ (p .bytes k l .done (done l) i z ∙ sym (c .at i (rw n at z))))
+
+    placed : (k < slotCount) ⊎ (k ≡ configSlot)
+    placed = by (decLt k slotCount) (ℕ-discrete k configSlot)
+      where
+        by : Dec (k < slotCount) → Dec (k ≡ configSlot) → (k < slotCount) ⊎ (k ≡ configSlot)
+        by (yes l) w = inl l
+        by (no l) (yes w) = inr w
+        by (no l) (no w) = absurd (omega (arith, found, state-above (h .bridge) k (omega arith)))
+
+    -- what a release answers
+    abbrev given : Bridge → Answer
+    given b =
+        cond (ltb k slotCount) (accepted (responseOf (failureOf b k)) 0 0 0)
+        (accepted (responseOf (b .core .config .response)) 0 0 (b .core .config .word))
+
+    pub given-same : given (h .bridge) ≡ given (g .bridge)
+    given-same = by placed
+      where
+        by : (k < slotCount) ⊎ (k ≡ configSlot) → given (h .bridge) ≡ given (g .bridge)
+        by (inl l) = rw (lt-ltb k slotCount l) (ap (λ (s : Slot). accepted (responseOf (s .cause)) 0 0 0) (row-same l))
+        by (inr w) =
+            let f : h .bridge .core .config .state ≡ 2 = sym (state-config (h .bridge)) ∙ (ap (stateOf (h .bridge)) (sym w) ∙ found) in
+            rw w (ap (λ (c : ConfigSlot). accepted (responseOf (c .response)) 0 0 (c .word)) (like-equal (p .twin .core .config) (λ n. omega (arith, f))))
+
+  pub looked-same : looked (h .bridge) (h .store) k ≡ looked (g .bridge) (g .store) k
+  looked-same = by (ℕ-discrete (takeRefusal (h .bridge) (length (h .store)) k) 0)
     where
-      go : (z w : Bool) → eqb (takeRefusal (h .bridge) (length (h .store)) k) 0 ≡ z → ltb k 8 ≡ w → looked (h .bridge) (h .store) k ≡ looked (g .bridge) (g .store) k
-      go false w e f = empty-part (h .bridge) (h .store) k e ∙ sym (empty-part (g .bridge) (g .store) k (ap (λ (n : ℕ). eqb n 0) (sym (take-same k)) ∙ e))
-      go true true e f = slot-part k (eqb-true _ _ e) (ltb-true _ _ f)
-      go true false e f = past-part (h .bridge) (h .store) k f ∙ sym (past-part (g .bridge) (g .store) k f)
+      part : takeRefusal (h .bridge) (length (h .store)) k ≡ 0 → (k < slotCount) ⊎ (k ≡ configSlot) → looked (h .bridge) (h .store) k ≡ looked (g .bridge) (g .store) k
+      part e (inl l) = slot-part e l
+      part e (inr w) = rw w (look-at-config (h .bridge) (h .store) ∙ sym (look-at-config (g .bridge) (g .store)))
+
+      by : Dec (takeRefusal (h .bridge) (length (h .store)) k ≡ 0) → looked (h .bridge) (h .store) k ≡ looked (g .bridge) (g .store) k
+      by (yes e) = part e (placed e)
+      by (no e) = take-refused (h .bridge) (h .store) k e .part ∙ sym (take-refused (g .bridge) (g .store) k (λ f. e (take-same ∙ f)) .part)

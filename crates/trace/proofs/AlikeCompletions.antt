@@ -1,269 +1,152 @@
 -- A completion, in two bridges alike.
-use Prim.Native.Nat.{ℕ, zero, suc, _+_, _*_, _%_, _≤_, _<_}
+use Prim.Native.Nat.{ℕ, zero, suc, _+_, _%_, _≤_, _<_}
 use mathlib.Core.Path.{_≡_, refl, sym, ap, _∙_, subst}
-use mathlib.Core.Logic.{_≢_}
 use mathlib.Core.List.{List}
 use mathlib.Core.Bool.{Bool, true, false, cond, _&&_}
 use native.Mathlib.Omega.{arith}
 use native.Mathlib.Decide.{ℕ-discrete}
-use lib.ListN.{length, getD, drop, length-take, length-drop}
+use lib.ListN.{length, drop, length-take, length-drop}
 use lib.Dec.{eqb, ltb}
-use borrow.Author.Tests.{ltb-true, ltb-false, lt-ltb, le-ltb}
+use borrow.Author.Tests.{eqb-true, ltb-true, ltb-false, lt-ltb, le-ltb}
 use Rattle.tlp.specs.declared.completion.Completion.{Completion}
 use Rattle.tlp.specs.declared.completion.CompletionRead.{CompletionRead}
 use Rattle.tlp.specs.declared.completion.CompletionRead.the-variants.{Header, Malformed}
 use Rattle.address.specs.declared.Settings.{Settings}
-use Rattle.machine.specs.Bridge.{Bridge}
 use Rattle.verdict.specs.declared.Verdict.{Verdict}
-use Rattle.verdict.specs.declared.Verdict.the-variants.{Unexpected, Good, Poisoned, Failed}
-use Rattle.machine.specs.State.{tagCount, raisedCore, raise, missingOf, ownerOf, placeOf, isOpen, Open, isWrite, shut, freed, refusalChange}
+use Rattle.verdict.specs.declared.Verdict.the-variants.{Unexpected, Good}
+use Rattle.machine.specs.State.{Bridge, Tag, tagAt, missingOf, ownerOf, placeOf, nextAddress, slotState, openPieces, Open, isOpen, tagCount, slotCount, slotSize, configWrite, coreIn, refusalChange}
 use Rattle.machine.specs.Verdict.{memoryVerdict, configVerdict}
-use Rattle.machine.specs.Completions.{storeSize, Held, held, memoryCompleted, configCompleted, nextAddress, verdictOf, completionOf, isUnexpected, readRefused, completeRefusal, expected, completed}
+use Rattle.machine.specs.Completions.{storeSize, Held, held, memoryCompleted, configCompleted, verdictOf, verdictNumber, completionOf, usefulBytes, isUnexpected, readRefused, completeRefusal, expected, completedBy, completed}
 use Rattle.machine.specs.contracts.Expected.{Fits, Whole}
-use Rattle.bridge_laws.specs.CompletionLaws.{Kept}
 use Rattle.machine.proofs.Judging.{verdict-fits, read-whole, open-room}
-use Rattle.bridge_laws.proofs.Keeping.{verdict-open, verdict-memory, own-slot-only, malformed-keeps}
+use Rattle.bridge_laws.proofs.Effects.{memory-serves}
+use Rattle.bridge_laws.proofs.Keeping.{verdict-memory}
+use Rattle.bridge_laws.proofs.Finished.{accepted-is-open}
+use Rattle.bridge_laws.proofs.Parts.{same-owner}
 use Rattle.trace.specs.Sound.{named, openIn, Sound}
 use Rattle.trace.proofs.Counts.{is-named, open-counted}
-use Rattle.trace.proofs.Settling.{state-below, pieces-open, some-open}
-use Rattle.trace.proofs.AlikeTwin.{Twin, open-below, open-used, raise-twin}
-use Rattle.trace.proofs.AlikeClosing.{memory-twin, config-twin}
-use Rattle.trace.proofs.AlikeTicks.{open-not, open-same}
-use Rattle.trace.proofs.AlikeStores.{SlotOf, Pair, other-slot, shut-slot}
-use Rattle.trace.proofs.AlikeServing.{Puts, served-slot}
+use Rattle.trace.proofs.Settling.{tag-below, owner-open, state-below, pieces-open}
+use Rattle.trace.proofs.Sound.{fine-of}
+use Rattle.trace.proofs.AlikeTwin.{Twin, look-same, tag-same, refused-cores}
+use Rattle.trace.proofs.AlikeStores.{Pair, core-pair}
+use Rattle.trace.proofs.AlikePieces.{serve-pair, word-pair}
+use Rattle.trace.proofs.AlikeTimes.{ready, test-open, waits}
 
 -- ---- the verdict is the same
 
-abbrev judged : Bridge → Completion → Bool → Bool → Verdict
-judged b c ours here =
-    cond (ours && here)
-    (cond (ltb (ownerOf b (c .tag)) 8) (memoryVerdict c (missingOf b (c .tag)) (nextAddress b (c .tag)))
-    (configVerdict c (isWrite b (c .tag))))
+-- by the requester ID and what is kept of the tag
+abbrev judge : Completion → ℕ → Tag → Verdict
+judge c ours r =
+    cond (eqb (c .requester) ours && isOpen (r .missing) (r .place))
+    (cond (ltb (r .owner) slotCount) (memoryVerdict c (r .missing) (r .next)) (configVerdict c (eqb (r .kind) configWrite)))
     Unexpected
 
-module _ (o l : ℕ → Bool) (u : Bool) (x y : Bridge) (p : Twin o l u x y) where
-  verdict-of : (c : Completion) → Open x (c .tag) → judged x c true true ≡ judged y c true true
-  verdict-of c n =
-      rw (← (p .tags .owner .same t i), ← (p .tags .next .same t i), ← (p .tags .kind .same t i), ← (ap (λ (m : List ℕ). getD m t 0) (p .tags .missing)))
-    where
-      t : ℕ
-      t = c .tag
-
-      i : o t ≡ true
-      i = open-used o l u x y t p n
-
-  judged-same : (c : Completion) (ours here : Bool) → isOpen (missingOf x (c .tag)) (placeOf x (c .tag)) ≡ here → judged x c ours here ≡ judged y c ours here
-  judged-same c true true e = verdict-of c (open-not (missingOf x (c .tag)) (placeOf x (c .tag)) e)
-  judged-same c true false e = refl
-  judged-same c false here e = refl
-
-  pub verdict-same : (c : Completion) → verdictOf x c ≡ verdictOf y c
-  unfolding verdictOf
-  verdict-same c =
-      let ours : eqb (c .requester) (x .settings .requester) ≡ eqb (c .requester) (y .settings .requester) = ap (λ (s : Settings). eqb (c .requester) (s .requester)) (p .settings) in
-      judged-same c (eqb (c .requester) (x .settings .requester)) (isOpen (missingOf x (c .tag)) (placeOf x (c .tag))) refl
-      ∙ (ap (λ (a : Bool). judged y c a (isOpen (missingOf x (c .tag)) (placeOf x (c .tag)))) ours
-      ∙ ap (judged y c (eqb (c .requester) (y .settings .requester))) (open-same o l u x y (c .tag) p))
-
-  read-same : (r : CompletionRead) → readRefused x r ≡ readRefused y r
-  read-same (Header c) = ap (λ (v : Verdict). cond (isUnexpected v) 13 0) (verdict-same c)
-  read-same Malformed = refl
-
-  pub complete-same : (n m : ℕ) (s : List ℕ) → storeSize ≤ n → storeSize ≤ m → completeRefusal x n s ≡ completeRefusal y m s
-  unfolding completeRefusal
-  complete-same n m s hn hm = rw (le-ltb n storeSize hn, le-ltb m storeSize hm) (read-same (completionOf s))
-
--- ---- what comes of it
-
-module _ (h : Held) (s : List ℕ) (c : Completion) (room : storeSize ≤ length (h .store)) (e : completionOf s ≡ Header c) where
-  is-lost : isUnexpected (verdictOf (h .bridge) c) ≡ true → completed h s ≡ held (raise 21 (h .bridge)) (h .store)
-  unfolding completed completeRefusal refusalChange
-  is-lost z = rw (le-ltb (length (h .store)) storeSize room, e, z)
-
-  is-expected : isUnexpected (verdictOf (h .bridge) c) ≡ false → completed h s ≡ expected h c (drop 12 s)
-  unfolding completed completeRefusal
-  is-expected z = rw (le-ltb (length (h .store)) storeSize room, e, z)
-
-  is-memory : (k : ℕ) (v : Verdict) → isUnexpected (verdictOf (h .bridge) c) ≡ false → ownerOf (h .bridge) (c .tag) ≡ k → verdictOf (h .bridge) c ≡ v → k < 8 → completed h s ≡ memoryCompleted h (c .tag) k (c .lower % 4) (drop 12 s) v
-  unfolding expected
-  is-memory k v z w f b = is-expected z ∙ rw (w, f, lt-ltb k 8 b)
-
-  is-config : (k : ℕ) (v : Verdict) → isUnexpected (verdictOf (h .bridge) c) ≡ false → ownerOf (h .bridge) (c .tag) ≡ k → verdictOf (h .bridge) c ≡ v → 8 ≤ k → completed h s ≡ held (configCompleted (h .bridge) (c .tag) (drop 12 s) v) (h .store)
-  unfolding expected
-  is-config k v z w f b = is-expected z ∙ rw (w, f, le-ltb k 8 b)
-
--- the bytes that a good one writes are there, and lie in the slot
-puts : (c : Completion) (missing place : ℕ) (payload : List ℕ) (v : Verdict) → Fits c missing v → place + missing ≤ 4096 → length payload ≡ 4 * c .length → Puts place (c .lower % 4) payload v
-puts c m p payload Unexpected f r e = tt
-puts c m p payload (Good n) f r e = (omega (arith, f .most), simp (length-take, length-drop) (omega (arith, f .inside)))
-puts c m p payload (Poisoned n) f r e = tt
-puts c m p payload (Failed why) f r e = tt
-
--- two open tags of a slot are two
-two-open : (b : Bridge) (k t v n : ℕ) → t ≢ v → named b k t ≡ true → named b k v ≡ true → t < n → v < n → 2 ≤ openIn b k n
-unfolding openIn
-two-open b k t v zero d e f a c = absurd (omega arith)
-two-open b k t v (suc n) d e f a c = go (ℕ-discrete n t) (ℕ-discrete n v) (two-open b k t v n d e f)
+judge-closed : (c : Completion) (ours : ℕ) (r : Tag) → r .missing ≡ 0 → judge c ours r ≡ Unexpected
+judge-closed c ours r e = rw (e, by (eqb (c .requester) ours))
   where
-    go : Dec (n ≡ t) → Dec (n ≡ v) → (t < n → v < n → 2 ≤ openIn b k n) → 2 ≤ openIn b k (suc n)
-    go (yes x) y ih =
-        let q : _≡_ {A = ℕ} (cond (named b k n) 1 0) 1 = rw (x, e) in
-        let r : v < n = omega (arith, c, x, d) in
-        omega (arith, q, open-counted b k v n f r)
-    go (no x) (yes y) ih =
-        let q : _≡_ {A = ℕ} (cond (named b k n) 1 0) 1 = rw (y, f) in
-        let r : t < n = omega (arith, a, x) in
-        omega (arith, q, open-counted b k t n e r)
-    go (no x) (no y) ih = omega (arith, ih (omega (arith, a, x)) (omega (arith, c, y)))
+    by : (z : Bool) → z && false ≡ false
+    by true = refl
+    by false = refl
 
--- ---- the event
+verdict-same : {x y : Bridge} → Twin x y → (c : Completion) → verdictOf x c ≡ verdictOf y c
+unfolding verdictOf
+verdict-same {x} {y} p c =
+    look-same p (judge c (x .settings .requester)) Unexpected (judge-closed c (x .settings .requester)) (c .tag)
+    ∙ ap (λ (s : Settings). judge c (s .requester) (tagAt y (c .tag))) (p .settings)
 
-module _ (h g : Held) (s : List ℕ) (c : Completion) (e : completionOf s ≡ Header c) (v : Sound h) (p : Pair h g) where
-  lost-pair : isUnexpected (verdictOf (h .bridge) c) ≡ true → isUnexpected (verdictOf (g .bridge) c) ≡ true → Pair (completed h s) (completed g s)
-  unfolding raisedCore
-  lost-pair z w =
-      rw (is-lost h s c (p .stores .early) e z, is-lost g s c (p .stores .late) e w)
-      (record {
-        o = p .o;
-        l = p .l;
-        u = p .u;
-        twin = raise-twin (p .o) (p .l) (p .u) (h .bridge) (g .bridge) 21 (p .twin);
-        stores = record { early = p .stores .early; late = p .stores .late; slots = p .stores .slots };
-      })
+pub complete-same : {h g : Held} → Pair h g → (s : List ℕ) → completeRefusal (h .bridge) (length (h .store)) s ≡ completeRefusal (g .bridge) (length (g .store)) s
+unfolding completeRefusal
+complete-same {h} {g} p s = rw (le-ltb (length (h .store)) storeSize (p .early), le-ltb (length (g .store)) storeSize (p .late)) (by (completionOf s))
+  where
+    by : (r : CompletionRead) → readRefused (h .bridge) r ≡ readRefused (g .bridge) r
+    by (Header c) = ap verdictNumber (verdict-same (p .twin) c)
+    by Malformed = refl
 
-  module _ (z : isUnexpected (verdictOf (h .bridge) c) ≡ false) (w : isUnexpected (verdictOf (g .bridge) c) ≡ false) where
-    same-verdict : verdictOf (g .bridge) c ≡ verdictOf (h .bridge) c
-    same-verdict = sym (verdict-same (p .o) (p .l) (p .u) (h .bridge) (g .bridge) (p .twin) c)
+-- ---- an open tag of a slot with one open piece is the only one
 
-    opens : isOpen (missingOf (h .bridge) (c .tag)) (placeOf (h .bridge) (c .tag)) ≡ true
-    opens = verdict-open (h .bridge) c z
+only : (b : Bridge) (k t u n : ℕ) → named b k t ≡ true → named b k u ≡ true → t < n → u < n → openIn b k n ≤ 1 → u ≡ t
+unfolding openIn
+only b k t u zero e f a c m = absurd (omega arith)
+only b k t u (suc n) e f a c m = by (ℕ-discrete t n) (ℕ-discrete u n) (only b k t u n e f)
+  where
+    counts : (v : ℕ) → named b k v ≡ true → v ≡ n → openIn b k n ≡ 0
+    counts v g x = let q : named b k n ≡ true = rw x at g in let l : openIn b k n + 1 ≤ 1 = rw q at m in omega arith
 
-    some : Open (h .bridge) (c .tag)
-    some = open-not (missingOf (h .bridge) (c .tag)) (placeOf (h .bridge) (c .tag)) opens
+    by : Dec (t ≡ n) → Dec (u ≡ n) → (t < n → u < n → openIn b k n ≤ 1 → u ≡ t) → u ≡ t
+    by (yes x) (yes y) ih = y ∙ sym x
+    by (yes x) (no y) ih = absurd (omega (arith, counts t e x, open-counted b k u n f (omega arith)))
+    by (no x) (yes y) ih = absurd (omega (arith, counts u f y, open-counted b k t n e (omega arith)))
+    by (no x) (no y) ih = ih (omega arith) (omega arith) (omega arith)
 
-    below : c .tag < tagCount
-    below = open-below (p .o) (p .l) (p .u) (h .bridge) (g .bridge) (c .tag) (p .twin) some
+alone : (h : Held) (k t : ℕ) → Sound h → k < slotCount → slotState (h .bridge) k ≡ 1 → Open (h .bridge) t → ownerOf (h .bridge) t ≡ k
+    → openPieces (h .bridge) k ≤ 1 → (u : ℕ) → Open (h .bridge) u → ownerOf (h .bridge) u ≡ k → u ≡ t
+alone h k t v l s m o few u n q =
+    let b = h .bridge in
+    only b k t u tagCount (is-named b k t m o) (is-named b k u n q) (tag-below b t (v .sizes) m) (tag-below b u (v .sizes) n)
+    (omega (arith, v .count k, pieces-open b k l s))
 
-    taken : p .o (c .tag) ≡ true
-    taken = open-used (p .o) (p .l) (p .u) (h .bridge) (g .bridge) (c .tag) (p .twin) some
+-- ---- one that is expected
 
-    same-owner : ownerOf (g .bridge) (c .tag) ≡ ownerOf (h .bridge) (c .tag)
-    same-owner = sym (p .twin .tags .owner .same (c .tag) taken)
+module _ {h g : Held} (s : List ℕ) (c : Completion) (e : completionOf s ≡ Header c) (v : Sound h) (p : Pair h g)
+    (z : isUnexpected (verdictOf (h .bridge) c) ≡ false) (opens : isOpen (missingOf (h .bridge) (c .tag)) (placeOf (h .bridge) (c .tag)) ≡ true) where
+  abbrev k : ℕ
+  k = ownerOf (h .bridge) (c .tag)
 
-    config-pair : 8 ≤ ownerOf (h .bridge) (c .tag) → Pair (completed h s) (completed g s)
-    unfolding configCompleted shut freed
-    config-pair b =
-        let k = ownerOf (h .bridge) (c .tag) in
-        let x = verdictOf (h .bridge) c in
-        rw (is-config h s c (p .stores .early) e k x z refl refl b, is-config g s c (p .stores .late) e k x w same-owner same-verdict b)
-        (record {
-          o = p .o;
-          l = p .l;
-          u = p .u;
-          twin = config-twin (p .o) (p .l) (p .u) (h .bridge) (g .bridge) (c .tag) (drop 12 s) x (p .twin .words (c .tag) below taken b) (p .twin);
-          stores =
-              record {
-                early = p .stores .early;
-                late = p .stores .late;
-                slots = λ j m. shut-slot j (c .tag) (h .bridge .state) (h .bridge .cause) (h .bridge .size) (h .bridge .missing) (h .bridge .owner) (h .bridge .place) (h .store) (g .store) (λ q. absurd (omega (arith, b, m, q))) (p .stores .slots j m);
-              };
-        })
+  some : Open (h .bridge) (c .tag)
+  some = test-open (missingOf (h .bridge) (c .tag)) (placeOf (h .bridge) (c .tag)) opens
 
-    module _ (small : ownerOf (h .bridge) (c .tag) < 8) where
-      used : p .l (ownerOf (h .bridge) (c .tag)) ≡ true
-      used = p .twin .reads (c .tag) below taken small
+  below : c .tag < tagCount
+  below = tag-below (h .bridge) (c .tag) (v .sizes) some
 
-      names : named (h .bridge) (ownerOf (h .bridge) (c .tag)) (c .tag) ≡ true
-      names = is-named (h .bridge) (ownerOf (h .bridge) (c .tag)) (c .tag) some refl
+  -- the bytes that a good one writes are there, and lie in the slot
+  written : k < slotCount → (n : ℕ) → verdictOf (h .bridge) c ≡ Good n
+      → (placeOf (h .bridge) (c .tag) + n ≤ slotSize) × (n ≤ length (usefulBytes (c .lower % 4) n (drop 12 s)))
+  written small n q =
+      let m = missingOf (h .bridge) (c .tag) in
+      let whole : Whole s (Header c) = rw e at (read-whole s) in
+      let f : Fits c m (Good n) = subst (Fits c m) (sym (verdict-memory (h .bridge) c z (lt-ltb _ _ small)) ∙ q) (verdict-fits c m (nextAddress (h .bridge) (c .tag)) (whole .0)) in
+      (omega (arith, f .most, open-room m (placeOf (h .bridge) (c .tag)) opens), simp (length-take, length-drop) (omega (arith, f .inside, whole .1)))
 
-      waits : getD (h .bridge .state) (ownerOf (h .bridge) (c .tag)) 0 ≡ 1
-      waits =
-          let k = ownerOf (h .bridge) (c .tag) in
-          let n = open-counted (h .bridge) k (c .tag) tagCount names below in
-          sym (state-below (h .bridge) k small) ∙ some-open (h .bridge) k (omega (arith, n, v .count k))
+  served : Held → ℕ → Verdict → Bool → Held
+  served x j w q =
+      cond q (memoryCompleted x (c .tag) j (c .lower % 4) (drop 12 s) w) (held (configCompleted (x .bridge) (c .tag) (drop 12 s) w) (x .store))
 
-      alone : getD (h .bridge .pieces) (ownerOf (h .bridge) (c .tag)) 0 ≤ 1 → (a : ℕ) → Open (h .bridge) a → ownerOf (h .bridge) a ≡ ownerOf (h .bridge) (c .tag) → a ≡ c .tag
-      alone few a m q = go (ℕ-discrete a (c .tag))
-        where
-          k : ℕ
-          k = ownerOf (h .bridge) (c .tag)
+  served-pair : (q : Bool) → ltb k slotCount ≡ q → Pair (served h k (verdictOf (h .bridge) c) q) (served g k (verdictOf (h .bridge) c) q)
+  unfolding served
+  served-pair true q =
+      let small = ltb-true k slotCount q in
+      let r = ready h v (c .tag) some in
+      let w = waits (h .bridge) (c .tag) opens r small in
+      let state = sym (state-below (h .bridge) k small) ∙ owner-open (h .bridge) (c .tag) (fine-of h v) some in
+      serve-pair p w state (alone h k (c .tag) v small state some refl) (written small)
+      (memory-serves h (c .tag) k (c .lower % 4) (drop 12 s) (verdictOf (h .bridge) c) (p .twin .early) below small z)
+      (memory-serves g (c .tag) k (c .lower % 4) (drop 12 s) (verdictOf (h .bridge) c) (p .twin .late) below small z)
+  served-pair false q =
+      let big = ltb-false k slotCount q in
+      word-pair p (c .tag) (drop 12 s) (verdictOf (h .bridge) c) below big (ready h v (c .tag) some .word big)
 
-          go : Dec (a ≡ c .tag) → a ≡ c .tag
-          go (yes x) = x
-          go (no x) =
-              absurd (omega (
-                arith,
-                few,
-                v .count k,
-                pieces-open (h .bridge) k small waits,
-                two-open (h .bridge) k a (c .tag) tagCount x (is-named (h .bridge) k a m q) names (open-below (p .o) (p .l) (p .u) (h .bridge) (g .bridge) a (p .twin) m) below,
-              ))
+  expected-pair : Pair (expected h c (drop 12 s)) (expected g c (drop 12 s))
+  unfolding served expected
+  expected-pair =
+      let o = same-owner (tag-same (p .twin) (c .tag) some) in
+      subst (Pair (served h k (verdictOf (h .bridge) c) (ltb k slotCount))) (λ i. served g (o i) (verdict-same (p .twin) c i) (ltb (o i) slotCount))
+      (served-pair (ltb k slotCount) refl)
 
-      written : Puts (placeOf (h .bridge) (c .tag)) (c .lower % 4) (drop 12 s) (verdictOf (h .bridge) c)
-      written =
-          let whole : Whole s (Header c) = rw e at (read-whole s) in
-          let r : length (drop 12 s) ≡ 4 * c .length = rw (length-drop 12 s) (omega (arith, whole .1)) in
-          let m = missingOf (h .bridge) (c .tag) in
-          let f : Fits c m (verdictOf (h .bridge) c) = rw (verdict-memory (h .bridge) c z (lt-ltb _ _ small)) (verdict-fits c m (nextAddress (h .bridge) (c .tag)) (whole .0)) in
-          puts c m (placeOf (h .bridge) (c .tag)) (drop 12 s) (verdictOf (h .bridge) c) f (open-room m (placeOf (h .bridge) (c .tag)) opens) r
-
-      memory-pair : Pair (completed h s) (completed g s)
-      memory-pair =
-          record {
-            o = p .o;
-            l = p .l;
-            u = p .u;
-            twin = rw (eh, eg) (memory-twin (p .o) (p .l) (p .u) h g (c .tag) k (c .lower % 4) (drop 12 s) x taken used (p .twin));
-            stores =
-                record {
-                  early = rw (kh .store .room) (p .stores .early);
-                  late = rw (kg .store .room) (p .stores .late);
-                  slots = λ j m. slot j m (ℕ-discrete j k);
-                };
-          }
-        where
-          k : ℕ
-          k = ownerOf (h .bridge) (c .tag)
-
-          x : Verdict
-          x = verdictOf (h .bridge) c
-
-          eh : completed h s ≡ memoryCompleted h (c .tag) k (c .lower % 4) (drop 12 s) x
-          eh = is-memory h s c (p .stores .early) e k x z refl refl small
-
-          eg : completed g s ≡ memoryCompleted g (c .tag) k (c .lower % 4) (drop 12 s) x
-          eg = is-memory g s c (p .stores .late) e k x w same-owner same-verdict small
-
-          kh : Kept k (c .tag) h (completed h s)
-          kh = own-slot-only h s c e
-
-          kg : Kept k (c .tag) g (completed g s)
-          kg = subst (λ (n : ℕ). Kept n (c .tag) g (completed g s)) same-owner (own-slot-only g s c e)
-
-          inside : placeOf (h .bridge) (c .tag) < 4096
-          inside = omega (arith, open-room (missingOf (h .bridge) (c .tag)) (placeOf (h .bridge) (c .tag)) opens, some)
-
-          slot : (j : ℕ) → j < 8 → Dec (j ≡ k) → SlotOf j (completed h s) (completed g s)
-          slot j m (yes q) =
-              subst (λ (i : ℕ). SlotOf i (completed h s) (completed g s)) (sym q)
-              (rw (eh, eg)
-              (served-slot (p .o) (p .l) (p .u) h g (c .tag) k (c .lower % 4) (drop 12 s) small used taken (p .twin) (p .stores .slots k small) (p .stores .early) (p .stores .late) inside waits
-              (omega (arith, below, v .sizes .missing)) (omega (arith, below, v .sizes .place)) alone x written))
-          slot j m (no q) = other-slot j k (c .tag) h (completed h s) g (completed g s) q refl kh kg (p .stores .slots j m)
-
-  header-pair : (z : Bool) → isUnexpected (verdictOf (h .bridge) c) ≡ z → isUnexpected (verdictOf (g .bridge) c) ≡ z → Pair (completed h s) (completed g s)
-  header-pair true z w = lost-pair z w
-  header-pair false z w = go (ltb (ownerOf (h .bridge) (c .tag)) 8) refl
-    where
-      go : (b : Bool) → ltb (ownerOf (h .bridge) (c .tag)) 8 ≡ b → Pair (completed h s) (completed g s)
-      go true b = memory-pair z w (ltb-true _ _ b)
-      go false b = config-pair z w (ltb-false _ _ b)
+-- ---- any
 
 pub completed-pair : (h g : Held) (s : List ℕ) → Sound h → Pair h g → Pair (completed h s) (completed g s)
-completed-pair h g s v p = go (completionOf s) refl
+unfolding completed
+completed-pair h g s v p =
+    subst (λ m. Pair (completed h s) (after g m (eqb m 0))) (complete-same p s) (by (eqb n 0) refl)
   where
-    go : (r : CompletionRead) → completionOf s ≡ r → Pair (completed h s) (completed g s)
-    go (Header c) e =
-        header-pair h g s c e v p (isUnexpected (verdictOf (h .bridge) c)) refl
-        (ap isUnexpected (sym (verdict-same (p .o) (p .l) (p .u) (h .bridge) (g .bridge) (p .twin) c)))
-    go Malformed e = rw (malformed-keeps h s e, malformed-keeps g s e) p
+    after : Held → ℕ → Bool → Held
+    after x m q = cond q (completedBy x s (completionOf s)) (held (coreIn (refusalChange m (x .bridge .core)) (x .bridge)) (x .store))
+
+    n : ℕ
+    n = completeRefusal (h .bridge) (length (h .store)) s
+
+    by : (q : Bool) → eqb n 0 ≡ q → Pair (after h n q) (after g n q)
+    by true q =
+        let a = accepted-is-open (h .bridge) (length (h .store)) s (eqb-true _ _ q) in
+        rw (a .reads) (expected-pair s (a .header) (a .reads) v p (a .expected) (a .opened))
+    by false q = core-pair p (refusalChange n) (refused-cores (p .twin .core) n)

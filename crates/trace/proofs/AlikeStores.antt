@@ -6,209 +6,181 @@ use mathlib.Core.Logic.{_⊎_, inl, inr, _≢_}
 use mathlib.Core.List.{List, [], _∷_, _++_}
 use mathlib.Core.Bool.{Bool, true, false, cond}
 use native.Mathlib.Omega.{arith}
-use native.Mathlib.Decide.{decLt}
-use lib.ListN.{length, getD, set, take, drop, replicate, length-replicate, List·getD-append}
-use lib.Seq.{paste, length-paste, length-paste-head, drop-paste, length-take-le, getD-set-other, getD-take, getD-drop, getD-append-add}
+use native.Mathlib.Decide.{ℕ-discrete}
+use lib.ListN.{length, getD, take, drop, replicate, length-replicate}
+use lib.Seq.{paste, length-paste, length-paste-head, length-take-le, getD-take, getD-drop}
 use lib.Dec.{eqb, leb}
 use borrow.Author.Tests.{eqb-true, leb-true}
-use Rattle.machine.specs.Bridge.{Bridge}
-use Rattle.machine.specs.State.{setPieces, missingOf, ownerOf, placeOf, okay}
-use Rattle.machine.specs.Completions.{storeSize, Held, held, zeroed, sizeOf, finished, pieceClosed}
-use Rattle.bridge_laws.specs.CompletionLaws.{Outside, Kept}
-use Rattle.trace.proofs.AlikeTwin.{Twin}
+use Rattle.parts.specs.declared.Core.{Core}
+use Rattle.machine.specs.State.{Tag, Slot, tagAt, slotAt, missingOf, ownerOf, Open, coreIn, tagCount, slotCount, slotSize, okay}
+use Rattle.machine.specs.Completions.{storeSize, Held, held, zeroed}
+use Rattle.bridge_laws.specs.Rows.{finishedSlot, closedSlot, closedStore}
+use Rattle.bridge_laws.specs.Effects.{Acts}
+use Rattle.bridge_laws.proofs.Effects.{core-acts}
+use Rattle.trace.proofs.Settling.{entry-below}
+use Rattle.trace.proofs.AlikeTwin.{TagsLike, SlotsLike, Cores, Twin, act-twin}
 
--- ---- writes
+-- ---- the same write in two stores
 
--- a byte inside what is written is what is written there
-write-inside : (d s : List ℕ) (at n i : ℕ) → at + n ≤ length d → n ≤ length s → i < n → getD (paste d at s n) (at + i) 0 ≡ getD s i 0
-write-inside d s at n i hd hs h =
-    let fits : at ≤ length d = omega arith in
-    let la : length (take at d) ≡ at = length-take-le at d fits in
-    let lh : length (take at d ++ take n s) ≡ at + n = length-paste-head d at s n fits hs in
-    let b : at + i < length (take at d ++ take n s) = omega arith in
-    List·getD-append (take at d ++ take n s) (drop (at + n) d) 0 (at + i) b
-    ∙ (ap (λ (a : ℕ). getD (take at d ++ take n s) (a + i) 0) (sym la)
-    ∙ (getD-append-add (take at d) (take n s) i 0 ∙ getD-take n s i 0 h))
+append-same : (a b c e : List ℕ) (i : ℕ) → length a ≡ length b → (i < length a → getD a i 0 ≡ getD b i 0)
+    → ((j : ℕ) → i ≡ length a + j → getD c j 0 ≡ getD e j 0) → getD (a ++ c) i 0 ≡ getD (b ++ e) i 0
+append-same [] [] c e i l f g = g i (omega arith)
+append-same [] (y ∷ b) c e i l f g = absurd (omega arith)
+append-same (x ∷ a) [] c e i l f g = absurd (omega arith)
+append-same (x ∷ a) (y ∷ b) c e zero l f g = f (omega arith)
+append-same (x ∷ a) (y ∷ b) c e (suc i) l f g = append-same a b c e i (omega arith) (λ h. f (omega arith)) (λ j q. g j (omega arith))
 
--- any other is as before
-write-before : (d s : List ℕ) (at n i : ℕ) → at + n ≤ length d → n ≤ length s → i < at → getD (paste d at s n) i 0 ≡ getD d i 0
-write-before d s at n i hd hs h =
-    let fits : at ≤ length d = omega arith in
-    let la : length (take at d) ≡ at = length-take-le at d fits in
-    let lh : length (take at d ++ take n s) ≡ at + n = length-paste-head d at s n fits hs in
-    let b : i < length (take at d ++ take n s) = omega arith in
-    let a : i < length (take at d) = omega arith in
-    List·getD-append (take at d ++ take n s) (drop (at + n) d) 0 i b
-    ∙ (List·getD-append (take at d) (take n s) 0 i a ∙ getD-take at d i 0 h)
+-- a byte is the same after it that is written or was the same before
+paste-same : (d e s : List ℕ) (at n i : ℕ) → at + n ≤ length d → at + n ≤ length e → n ≤ length s
+    → (i < at → getD d i 0 ≡ getD e i 0) → (at + n ≤ i → getD d i 0 ≡ getD e i 0) → getD (paste d at s n) i 0 ≡ getD (paste e at s n) i 0
+paste-same d e s at n i hd he hs f g =
+    let a = length-take-le at d (omega arith) in
+    let b = length-take-le at e (omega arith) in
+    let x = length-paste-head d at s n (omega arith) hs in
+    let y = length-paste-head e at s n (omega arith) hs in
+    append-same (take at d ++ take n s) (take at e ++ take n s) (drop (at + n) d) (drop (at + n) e) i (x ∙ sym y)
+    (λ l. append-same (take at d) (take at e) (take n s) (take n s) i (a ∙ sym b)
+    (λ l. let m : i < at = omega (arith, l, a) in getD-take at d i 0 m ∙ (f m ∙ sym (getD-take at e i 0 m)))
+    (λ j q. refl))
+    (λ j q. let m : i ≡ at + n + j = omega (arith, q, x) in
+    getD-drop (at + n) d j 0 ∙ (subst (λ z. getD d z 0 ≡ getD e z 0) m (g (omega arith)) ∙ sym (getD-drop (at + n) e j 0)))
 
-write-behind : (d s : List ℕ) (at n i : ℕ) → at + n ≤ length d → n ≤ length s → getD (paste d at s n) (at + n + i) 0 ≡ getD d (at + n + i) 0
-write-behind d s at n i hd hs =
-    let fits : at ≤ length d = omega arith in
-    sym (getD-drop (at + n) (paste d at s n) i 0)
-    ∙ (ap (λ (x : List ℕ). getD x i 0) (drop-paste d at s n fits hs) ∙ getD-drop (at + n) d i 0)
+-- stores d and e become d' and e': no shorter, and what was the same is the same
+pub record Still (d e d' e' : List ℕ) : Type 0 where
+  pub early : length d' ≡ length d
+  pub late : length e' ≡ length e
+  pub kept : (i : ℕ) → getD d i 0 ≡ getD e i 0 → getD d' i 0 ≡ getD e' i 0
 
--- the same write in two stores: what is written is the same
-pub written : (d e s : List ℕ) (at n i : ℕ) → at + n ≤ length d → at + n ≤ length e → n ≤ length s → at ≤ i → i < at + n → getD (paste d at s n) i 0 ≡ getD (paste e at s n) i 0
-written d e s at n i hd he hs a b =
-    let j = i - at in
-    let q : at + j ≡ i = omega arith in
-    let h : j < n = omega arith in
-    subst (λ (x : ℕ). getD (paste d at s n) x 0 ≡ getD (paste e at s n) x 0) q
-    (write-inside d s at n j hd hs h ∙ sym (write-inside e s at n j he hs h))
+pub still : {d e : List ℕ} → Still d e d e
+still = record { early = refl; late = refl; kept = λ i q. q }
 
--- and what was the same stays the same
-pub write-both : (d e s : List ℕ) (at n i : ℕ) → at + n ≤ length d → at + n ≤ length e → n ≤ length s → getD d i 0 ≡ getD e i 0 → getD (paste d at s n) i 0 ≡ getD (paste e at s n) i 0
-write-both d e s at n i hd he hs p = go (decLt i at) (decLt i (at + n))
-  where
-    go : Dec (i < at) → Dec (i < at + n) → getD (paste d at s n) i 0 ≡ getD (paste e at s n) i 0
-    go (yes a) b = write-before d s at n i hd hs a ∙ (p ∙ sym (write-before e s at n i he hs a))
-    go (no a) (yes b) = written d e s at n i hd he hs (omega (arith, a)) b
-    go (no a) (no b) =
-        let j = i - (at + n) in
-        let q : at + n + j ≡ i = omega (arith, b) in
-        let r : getD d (at + n + j) 0 ≡ getD e (at + n + j) 0 = rw q p in
-        subst (λ (x : ℕ). getD (paste d at s n) x 0 ≡ getD (paste e at s n) x 0) q
-        (write-behind d s at n j hd hs ∙ (r ∙ sym (write-behind e s at n j he hs)))
+pub still-then : {d e d' e' d'' e'' : List ℕ} → Still d e d' e' → Still d' e' d'' e'' → Still d e d'' e''
+still-then p q = record { early = q .early ∙ p .early; late = q .late ∙ p .late; kept = λ i w. q .kept i (p .kept i w) }
 
--- a slot's zeros
-pub zeroed-both : (d e : List ℕ) (k n i : ℕ) → k < 8 → n ≤ 4096 → storeSize ≤ length d → storeSize ≤ length e → i < n → getD (zeroed k n d) (4096 * k + i) 0 ≡ getD (zeroed k n e) (4096 * k + i) 0
-zeroed-both d e k n i a b hd he h =
-    let o : ℕ = 0 in
-    let z : length (replicate n o) ≡ n = length-replicate n o in
-    written d e (replicate n 0) (4096 * k) n (4096 * k + i) (omega arith) (omega arith) (omega arith) (omega arith) (omega arith)
+abbrev pub SameAt : ℕ → ℕ → List ℕ → List ℕ → Type 0
+SameAt k i d e = getD d (slotSize * k + i) 0 ≡ getD e (slotSize * k + i) 0
 
-pub zeroed-room : (d : List ℕ) (k n : ℕ) → k < 8 → n ≤ 4096 → storeSize ≤ length d → storeSize ≤ length (zeroed k n d)
-zeroed-room d k n a b h =
-    let o : ℕ = 0 in
-    let z : length (replicate n o) ≡ n = length-replicate n o in
-    let e : length (zeroed k n d) ≡ length d = length-paste d (4096 * k) (replicate n 0) n (omega arith) (omega arith) in
-    rw e h
+-- slot k lies in both stores
+pub record Room (k : ℕ) (d e : List ℕ) : Type 0 where
+  pub small : k < slotCount
+  pub early : storeSize ≤ length d
+  pub late : storeSize ≤ length e
 
-pub zeroed-kept : (d e : List ℕ) (k n i : ℕ) → k < 8 → n ≤ 4096 → storeSize ≤ length d → storeSize ≤ length e → getD d i 0 ≡ getD e i 0 → getD (zeroed k n d) i 0 ≡ getD (zeroed k n e) i 0
-zeroed-kept d e k n i a b hd he p =
-    let o : ℕ = 0 in
-    let z : length (replicate n o) ≡ n = length-replicate n o in
-    write-both d e (replicate n 0) (4096 * k) n i (omega arith) (omega arith) (omega arith) p
+module _ {k : ℕ} {d e : List ℕ} (r : Room k d e) where
+  -- n bytes written
+  pub put-still : (s : List ℕ) (at n : ℕ) → at + n ≤ storeSize → n ≤ length s → Still d e (paste d at s n) (paste e at s n)
+  put-still s at n fits enough = record {
+    early = length-paste d at s n (omega arith) enough;
+    late = length-paste e at s n (omega arith) enough;
+    kept = λ i w. paste-same d e s at n i (omega arith) (omega arith) enough (λ l. w) (λ l. w);
+  }
+
+  pub put-same : (s : List ℕ) (at n i : ℕ) → at + n ≤ storeSize → n ≤ length s → at ≤ i → i < at + n
+      → getD (paste d at s n) i 0 ≡ getD (paste e at s n) i 0
+  put-same s at n i fits enough a b = paste-same d e s at n i (omega arith) (omega arith) enough (λ l. absurd (omega arith)) (λ l. absurd (omega arith))
+
+  -- the first n bytes of slot k zeroed
+  pub zeroed-still : (n : ℕ) → n ≤ slotSize → Still d e (zeroed k n d) (zeroed k n e)
+  zeroed-still n most = put-still (replicate n 0) (slotSize * k) n (omega arith) (omega (arith, length-replicate {A = ℕ} n 0))
+
+  pub zeroed-same : (n : ℕ) → n ≤ slotSize → (i : ℕ) → i < n → SameAt k i (zeroed k n d) (zeroed k n e)
+  zeroed-same n most i l = put-same (replicate n 0) (slotSize * k) n (slotSize * k + i) (omega arith) (omega (arith, length-replicate {A = ℕ} n 0)) (omega arith) (omega arith)
 
 -- ---- the relation
 
--- byte i of slot k is still to come: inside what an open tag of the slot still misses; by missing, owner and place
-pub record Gap (m o p : List ℕ) (k i : ℕ) : Type 0 where
+-- byte i of slot k is still to come: inside what an open tag of the slot still misses, by the tags' rows
+pub record Gap (row : ℕ → Tag) (k i : ℕ) : Type 0 where
   pub tag : ℕ
-  pub opened : getD m tag 0 ≢ 0
-  pub owner : getD o tag 0 ≡ k
-  pub from : getD p tag 0 ≤ i
-  pub to : i < getD p tag 0 + getD m tag 0
+  pub opened : row tag .missing ≢ 0
+  pub owner : row tag .owner ≡ k
+  pub from : row tag .place ≤ i
+  pub to : i < row tag .place + row tag .missing
 
-abbrev pub SameAt : ℕ → ℕ → List ℕ → List ℕ → Type 0
-SameAt k i s r = getD s (4096 * k + i) 0 ≡ getD r (4096 * k + i) 0
+-- a tag whose row stays keeps its gap
+pub gap-of : {r s : ℕ → Tag} {k i : ℕ} (f : Gap r k i) → s (f .tag) ≡ r (f .tag) → Gap s k i
+gap-of f e = record { tag = f .tag; opened = rw e (f .opened); owner = rw e (f .owner); from = rw e (f .from); to = rw e (f .to) }
 
--- by state, cause, size, missing, owner and place, and the two stores
-pub record Slot (k : ℕ) (st e n m o p s r : List ℕ) : Type 0 where
-  pub done : getD st k 0 ≡ 2 → (i : ℕ) → i < min (getD n k 0) 4096 → SameAt k i s r
-  pub part : getD st k 0 ≡ 1 → getD e k 0 ≡ 0 → (i : ℕ) → i < min (getD n k 0) 4096 → SameAt k i s r ⊎ Gap m o p k i
+-- slot k with row s, of a finished read every byte is the same, of an open one that has not failed every byte but the gaps
+pub record Shown (k : ℕ) (s : Slot) (gap : ℕ → Type 0) (d e : List ℕ) : Type 0 where
+  pub done : s .state ≡ 2 → (i : ℕ) → i < min (s .size) slotSize → SameAt k i d e
+  pub part : s .state ≡ 1 → s .cause ≡ okay → (i : ℕ) → i < min (s .size) slotSize → SameAt k i d e ⊎ gap i
 
-abbrev pub SlotOf : ℕ → Held → Held → Type 0
-SlotOf k h g =
-    Slot k (h .bridge .state) (h .bridge .cause) (h .bridge .size) (h .bridge .missing) (h .bridge .owner) (h .bridge .place) (h .store) (g .store)
-
-pub record Stores (h g : Held) : Type 0 where
+-- a bridge with its store alike another
+pub record Pair (h g : Held) : Type 0 where
+  pub twin : Twin (h .bridge) (g .bridge)
   pub early : storeSize ≤ length (h .store)
   pub late : storeSize ≤ length (g .store)
-  pub slots : (k : ℕ) → k < 8 → SlotOf k h g
+  pub bytes : (k : ℕ) → k < slotCount → Shown k (slotAt (h .bridge) k) (Gap (tagAt (h .bridge)) k) (h .store) (g .store)
 
--- a bridge with its store alike another: with some marks
-pub record Pair (h g : Held) : Type 0 where
-  pub o : ℕ → Bool
-  pub l : ℕ → Bool
-  pub u : Bool
-  pub twin : Twin o l u (h .bridge) (g .bridge)
-  pub stores : Stores h g
+-- ---- a slot that stays, and a piece closed
 
--- ---- a slot that an event does not touch
-
-pub apart-byte : (j k i : ℕ) → j ≢ k → i < 4096 → Outside k (4096 * j + i)
-apart-byte j k i n h = go (decLt j k)
-  where
-    go : Dec (j < k) → Outside k (4096 * j + i)
-    go (yes a) = inl (omega arith)
-    go (no a) = inr (omega (arith, a, n))
-
-pub other-slot : (j k t : ℕ) (h h' g g' : Held) → j ≢ k → ownerOf (h .bridge) t ≡ k → Kept k t h h' → Kept k t g g' → SlotOf j h g → SlotOf j h' g'
-other-slot j k t h h' g g' n w p q s = record {
-  done = λ a i b. bytes i (size i b) (s .done (sym (p .here .state j n) ∙ a) i (size i b));
-  part = λ a c i b. go i (size i b) (s .part (sym (p .here .state j n) ∙ a) (sym (p .here .cause j n) ∙ c) i (size i b));
+-- a gap is filled or stays one
+pub shown-still : {k : ℕ} {s : Slot} {gap gap' : ℕ → Type 0} {d e d' e' : List ℕ} → Still d e d' e' → ((i : ℕ) → gap i → SameAt k i d' e' ⊎ gap' i)
+    → Shown k s gap d e → Shown k s gap' d' e'
+shown-still {k} {s} {gap} {gap'} {d} {e} {d'} {e'} w f p = record {
+  done = λ a i l. w .kept (slotSize * k + i) (p .done a i l);
+  part = λ a c i l. by i (p .part a c i l);
 }
   where
-    size : (i : ℕ) → i < min (getD (h' .bridge .size) j 0) 4096 → i < min (getD (h .bridge .size) j 0) 4096
-    size i b = rw (p .here .size) at b
+    by : (i : ℕ) → SameAt k i d e ⊎ gap i → SameAt k i d' e' ⊎ gap' i
+    by i (inl z) = inl (w .kept (slotSize * k + i) z)
+    by i (inr z) = f i z
 
-    bytes : (i : ℕ) → i < min (getD (h .bridge .size) j 0) 4096 → SameAt j i (h .store) (g .store) → SameAt j i (h' .store) (g' .store)
-    bytes i b e =
-        let o = apart-byte j k i n (omega arith) in
-        p .store .bytes (4096 * j + i) o ∙ (e ∙ sym (q .store .bytes (4096 * j + i) o))
-
-    gap : (i : ℕ) → Gap (h .bridge .missing) (h .bridge .owner) (h .bridge .place) j i → Gap (h' .bridge .missing) (h' .bridge .owner) (h' .bridge .place) j i
-    gap i f =
-        let a = f .tag in
-        let z : a ≢ t = λ e. n (sym (f .owner) ∙ (ap (ownerOf (h .bridge)) e ∙ w)) in
-        let em : missingOf (h' .bridge) a ≡ missingOf (h .bridge) a = p .here .missing a z in
-        let ep : placeOf (h' .bridge) a ≡ placeOf (h .bridge) a = p .here .place a z in
-        let eo : ownerOf (h' .bridge) a ≡ ownerOf (h .bridge) a = ap (λ (x : List ℕ). getD x a 0) (p .here .owner) in
-        record {
-          tag = a;
-          opened = λ e. f .opened (sym em ∙ e);
-          owner = eo ∙ f .owner;
-          from = rw ep (f .from);
-          to = rw (ep, em) (f .to);
-        }
-
-    go : (i : ℕ) → i < min (getD (h .bridge .size) j 0) 4096 → SameAt j i (h .store) (g .store) ⊎ Gap (h .bridge .missing) (h .bridge .owner) (h .bridge .place) j i → SameAt j i (h' .store) (g' .store) ⊎ Gap (h' .bridge .missing) (h' .bridge .owner) (h' .bridge .place) j i
-    go i b (inl e) = inl (bytes i b e)
-    go i b (inr f) = inr (gap i f)
-
--- a tag that is closed for another slot
-pub shut-slot : (j t : ℕ) (st e n m o p s r : List ℕ) → getD o t 0 ≢ j → Slot j st e n m o p s r → Slot j st e n (set m t 0) o p s r
-shut-slot j t st e n m o p s r w q = record { done = q .done; part = λ a c i b. go i (q .part a c i b) }
+-- if it is the last and none has failed, every byte is the same
+pub closed-shown : {k : ℕ} {d e : List ℕ} {gap : ℕ → Type 0} → Room k d e → (s : Slot) → Shown k s gap d e
+    → (s .pieces ≤ 1 → s .cause ≡ okay → (i : ℕ) → i < min (s .size) slotSize → SameAt k i d e)
+    → Still d e (closedStore k s d) (closedStore k s e) × Shown k (closedSlot s) gap (closedStore k s d) (closedStore k s e)
+closed-shown {k} {d} {e} {gap} r s p last = by (leb (s .pieces) 1) (eqb (s .cause) okay) refl refl
   where
-    go : (i : ℕ) → SameAt j i s r ⊎ Gap m o p j i → SameAt j i s r ⊎ Gap (set m t 0) o p j i
-    go i (inl a) = inl a
-    go i (inr f) =
-        let z : f .tag ≢ t = λ a. w (ap (λ (x : ℕ). getD o x 0) (sym a) ∙ f .owner) in
-        let em : getD (set m t 0) (f .tag) 0 ≡ getD m (f .tag) 0 = getD-set-other m t (f .tag) 0 0 z in
-        inr (record { tag = f .tag; opened = λ a. f .opened (sym em ∙ a); owner = f .owner; from = f .from; to = rw em (f .to) })
+    stored : Bool → Bool → List ℕ → List ℕ
+    stored z w x = cond z (cond w x (zeroed k (min (s .size) slotSize) x)) x
 
--- ---- a piece closed
+    by : (z w : Bool) → leb (s .pieces) 1 ≡ z → eqb (s .cause) okay ≡ w
+        → Still d e (stored z w d) (stored z w e)
+        × Shown k (cond z (finishedSlot s) (record { state = s .state; size = s .size; pieces = s .pieces - 1; fault = s .fault; cause = s .cause })) gap (stored z w d) (stored z w e)
+    by true true z w = (still, record { done = λ a. last (leb-true _ _ z) (eqb-true _ _ w); part = λ a. absurd (omega arith) })
+    by true false z w =
+        (zeroed-still r (min (s .size) slotSize) (omega arith), record { done = λ a. zeroed-same r (min (s .size) slotSize) (omega arith); part = λ a. absurd (omega arith) })
+    by false w z v = (still, record { done = p .done; part = p .part })
 
--- a state put to 2 is not 1
-pub two-not-one : (st : List ℕ) (k : ℕ) → getD (set st k 2) k 0 ≢ 1
-two-not-one [] k e = omega arith
-two-not-one (a ∷ st) zero e = omega arith
-two-not-one (a ∷ st) (suc k) e = two-not-one st k e
+-- ---- a step on tag t, which is of slot k if it is open, on slot k and the core
 
-module _ (o l : ℕ → Bool) (u : Bool) where
-  pub size-same : (x y : Bridge) (k : ℕ) → l k ≡ true → Twin o l u x y → sizeOf x k ≡ sizeOf y k
-  size-same x y k e p = ap (λ (n : ℕ). min n 4096) (p .slots .size .same k e)
+module _ {t k : ℕ} {f f' : Tag → Tag} {g g' : Slot → Slot} {c c' : Core → Core} {h l x y : Held} (p : Pair h l)
+    (m : Acts t k f g c (h .bridge) (x .bridge)) (n : Acts t k f' g' c' (l .bridge) (y .bridge))
+    (mine : Open (h .bridge) t → ownerOf (h .bridge) t ≡ k)
+    (core : Cores (h .bridge .core .ticks) (l .bridge .core .ticks) (c (h .bridge .core)) (c' (l .bridge .core)))
+    (tag : TagsLike (h .bridge .core .ticks) (l .bridge .core .ticks) (f (tagAt (h .bridge) t)) (f' (tagAt (l .bridge) t)))
+    (slot : k < slotCount → SlotsLike (g (slotAt (h .bridge) k)) (g' (slotAt (l .bridge) k)))
+    (stores : Still (h .store) (l .store) (x .store) (y .store))
+    (here : k < slotCount → Shown k (g (slotAt (h .bridge) k)) (Gap (tagAt (x .bridge)) k) (x .store) (y .store)) where
+  -- a gap of another slot
+  gap-other : (j : ℕ) → j ≢ k → (i : ℕ) → Gap (tagAt (h .bridge)) j i → Gap (tagAt (x .bridge)) j i
+  gap-other j d i q =
+      gap-of q (m .tags (q .tag) (λ e. d (sym (q .owner) ∙ (ap (ownerOf (h .bridge)) e ∙ mine (λ z. q .opened (ap (missingOf (h .bridge)) e ∙ z))))))
 
-  finished-slot : (h g : Held) (k : ℕ) → k < 8 → l k ≡ true → storeSize ≤ length (h .store) → storeSize ≤ length (g .store) → Twin o l u (h .bridge) (g .bridge) → (getD (h .bridge .cause) k 0 ≡ 0 → (i : ℕ) → i < sizeOf (h .bridge) k → SameAt k i (h .store) (g .store)) → SlotOf k (finished k h) (finished k g)
-  unfolding finished
-  finished-slot h g k b e hd he p last = record {
-    done = λ z. rw (← (p .slots .cause .same k e), ← (size-same (h .bridge) (g .bridge) k e p)) (go (eqb (getD (h .bridge .cause) k 0) okay) refl);
-    part = λ z. absurd (two-not-one (h .bridge .state) k z);
+  bytes-of : (j : ℕ) → j < slotCount → Dec (j ≡ k) → Shown j (slotAt (x .bridge) j) (Gap (tagAt (x .bridge)) j) (x .store) (y .store)
+  bytes-of j b (yes e) =
+      subst (λ i. Shown i (slotAt (x .bridge) i) (Gap (tagAt (x .bridge)) i) (x .store) (y .store)) (sym e)
+      (subst (λ s. Shown k s (Gap (tagAt (x .bridge)) k) (x .store) (y .store)) (sym (m .slot)) (here (rw e at b)))
+  bytes-of j b (no d) =
+      subst (λ s. Shown j s (Gap (tagAt (x .bridge)) j) (x .store) (y .store)) (sym (m .slots j d)) (shown-still stores (λ i q. inr (gap-other j d i q)) (p .bytes j b))
+
+  pub act-pair : Pair x y
+  act-pair = record {
+    twin = act-twin (p .twin) m n core tag slot;
+    early = rw (stores .early) (p .early);
+    late = rw (stores .late) (p .late);
+    bytes = λ j b. bytes-of j b (ℕ-discrete j k);
   }
-    where
-      go : (z : Bool) → eqb (getD (h .bridge .cause) k 0) okay ≡ z → (i : ℕ) → i < sizeOf (h .bridge) k → SameAt k i (cond z (h .store) (zeroed k (sizeOf (h .bridge) k) (h .store))) (cond z (g .store) (zeroed k (sizeOf (h .bridge) k) (g .store)))
-      go true z = last (eqb-true _ _ z)
-      go false z = λ i w. zeroed-both (h .store) (g .store) k (sizeOf (h .bridge) k) i b (omega arith) hd he w
 
-  pub piece-slot : (h g : Held) (k : ℕ) → k < 8 → l k ≡ true → storeSize ≤ length (h .store) → storeSize ≤ length (g .store) → Twin o l u (h .bridge) (g .bridge) → (getD (h .bridge .pieces) k 0 ≤ 1 → getD (h .bridge .cause) k 0 ≡ 0 → (i : ℕ) → i < sizeOf (h .bridge) k → SameAt k i (h .store) (g .store)) → SlotOf k h g → SlotOf k (pieceClosed k h) (pieceClosed k g)
-  unfolding pieceClosed
-  piece-slot h g k b e hd he p last s =
-      rw (← (p .slots .pieces .same k e)) (go (leb (getD (h .bridge .pieces) k 0) 1) refl)
-    where
-      less : Held → Held
-      less a = held (setPieces k (getD (h .bridge .pieces) k 0 - 1) (a .bridge)) (a .store)
+-- ---- a step on no tag, and on the core alone
 
-      go : (z : Bool) → leb (getD (h .bridge .pieces) k 0) 1 ≡ z → SlotOf k (cond z (finished k h) (less h)) (cond z (finished k g) (less g))
-      go true z = finished-slot h g k b e hd he p (last (leb-true _ _ z))
-      go false z = s
+pub no-tag : {h g : Held} {A : Type 0} → Pair h g → Open (h .bridge) tagCount → A
+no-tag {h} p o = absurd (omega (arith, entry-below (h .bridge .missing) tagCount o, p .twin .early .missing))
+
+pub core-pair : {h g : Held} (p : Pair h g) (c : Core → Core)
+    → Cores (h .bridge .core .ticks) (g .bridge .core .ticks) (c (h .bridge .core)) (c (g .bridge .core))
+    → Pair (held (coreIn (c (h .bridge .core)) (h .bridge)) (h .store)) (held (coreIn (c (g .bridge .core)) (g .bridge)) (g .store))
+core-pair {h} {g} p c q =
+    act-pair p (core-acts tagCount slotCount c (h .bridge) (p .twin .early)) (core-acts tagCount slotCount c (g .bridge) (p .twin .late))
+    (no-tag p) q (p .twin .tags tagCount) (p .twin .slots slotCount) still (λ l. absurd (omega arith))

@@ -1,165 +1,168 @@
--- Two stores alike stay alike under ticks and link changes.
-use Prim.Native.Nat.{ℕ, zero, suc, _+_, _*_, _≤_, _<_}
+-- Two bridges alike stay alike under a tick.
+use Prim.Native.Nat.{ℕ, _+_, _-_, _<_, _≤_}
 use mathlib.Core.Path.{_≡_, refl, sym, ap, _∙_, subst}
 use mathlib.Core.Logic.{_≢_}
-use mathlib.Core.List.{List}
-use mathlib.Core.Bool.{Bool, true, false, cond}
+use mathlib.Core.Bool.{Bool, true, false, cond, not, _&&_}
 use native.Mathlib.Omega.{arith}
 use native.Mathlib.Decide.{ℕ-discrete}
-use lib.ListN.{length, getD, set}
-use lib.Seq.{getD-set-other}
-use lib.Dec.{eqb, ltb}
-use borrow.Author.Tests.{eqb-true, eqb-false, ltb-true, ltb-false}
+use lib.ListN.{length}
+use lib.Dec.{eqb, leb}
+use borrow.Author.Tests.{eqb-false, not-true, le-ltb}
+use Rattle.common.proofs.Tests.{and-left}
+use Rattle.parts.specs.declared.ConfigSlot.{ConfigSlot}
+use Rattle.parts.specs.declared.Core.{Core}
 use Rattle.verdict.specs.declared.Cause.the-variants.{Timeout}
-use Rattle.machine.specs.State.{tagCount, slotFinished, withConfig, coreIn, setState, setPieces, setCause, raisedCore, missingOf, ownerOf, placeOf, isOpen, Open, shut, slverr}
-use Rattle.machine.specs.Completions.{storeSize, Held, held, zeroed, sizeOf, failed, pieceClosed, configDone}
-use Rattle.machine.specs.Ticks.{isOld, timedOut, expire, expireTo, dropSlot, dropSlots, linkLost}
-use Rattle.bridge_laws.specs.CompletionLaws.{Kept}
+use Rattle.machine.specs.State.{Bridge, Slot, tagAt, slotAt, missingOf, ownerOf, placeOf, sentOf, Open, isOpen, slotCount, slverr, withTicks, withConfig, coreIn, raisedCore}
+use Rattle.machine.specs.Verdict.{causeResponse, causeBit}
+use Rattle.machine.specs.Completions.{storeSize, Held, held, configDone}
+use Rattle.machine.specs.Ticks.{nextTick, ageOf, isOld, ticked}
+use Rattle.machine.specs.Take.{stateOf}
 use Rattle.machine.proofs.Judging.{open-room}
-use Rattle.bridge_laws.proofs.Keeping.{then, failed-only, shut-only, kept-then, kept-bridge, piece-kept}
-use Rattle.trace.proofs.AlikeTwin.{Twin, open-below, open-used}
-use Rattle.trace.proofs.AlikeTicks.{open-not, old-open, old-same, expire-to-twin, lost-twin, drops-twin}
-use Rattle.trace.proofs.AlikeStores.{SameAt, SlotOf, Stores, other-slot, shut-slot, size-same, zeroed-both, zeroed-room, zeroed-kept, two-not-one}
-use Rattle.trace.proofs.AlikeServing.{failed-timed}
+use Rattle.bridge_laws.specs.Rows.{shutTag, finishedSlot, faultedSlot, closedSlot, closedStore}
+use Rattle.bridge_laws.specs.Effects.{Acts, Expires, memory, config}
+use Rattle.bridge_laws.proofs.Effects.{timed-out-expires}
+use Rattle.bridge_laws.proofs.Parts.{same-missing, same-owner}
+use Rattle.bridge_laws.proofs.Cores.{raised-core}
+use Rattle.bridge_laws.proofs.BothTurns.{each-tag-both}
+use Rattle.trace.specs.Sound.{Sound}
+use Rattle.trace.proofs.Settling.{owner-open, owner-most, state-below, state-config}
+use Rattle.trace.proofs.Sound.{fine-of}
+use Rattle.trace.proofs.AlikeTwin.{equal, unused, like-equal, Twin, look-same, tag-same, config-cores, raised-cores, next-like}
+use Rattle.trace.proofs.AlikeStores.{still, Pair, act-pair}
+use Rattle.trace.proofs.AlikePieces.{Failable, faulted-failable, Waits, fail-pair, cause-not-okay}
 
--- ---- one request that times out
+-- ---- the slot of an open tag is in use, also while a tick closes tags in turn
 
-late-kept : (h : Held) (t k place : ℕ) → k < 8 → storeSize ≤ length (h .store) → Kept k t h (pieceClosed k (held (shut t (failed k place Timeout (h .bridge))) (h .store)))
-late-kept h t k place small r =
-    let b = failed k place Timeout (h .bridge) in
-    let x = held (shut t b) (h .store) in
-    kept-then k t h x (pieceClosed k x)
-    (kept-bridge k t h (shut t b) (then k t (h .bridge) b (shut t b) (failed-only k t (h .bridge) place Timeout) (shut-only k t b)))
-    (piece-kept k t small x r)
+pub record Ready (b : Bridge) (t : ℕ) : Type 0 where
+  pub read : ownerOf b t < slotCount → Failable (slotAt b (ownerOf b t))
+  pub word : slotCount ≤ ownerOf b t → b .core .config .state ≢ 0
 
-module _ (o l : ℕ → Bool) (u : Bool) where
-  timed-stores : (h g : Held) (t : ℕ) → t < tagCount → o t ≡ true → isOpen (missingOf (h .bridge) t) (placeOf (h .bridge) t) ≡ true → Twin o l u (h .bridge) (g .bridge) → Stores h g → Stores (timedOut t h) (timedOut t g)
-  unfolding timedOut shut raisedCore
-  timed-stores h g t b i w p s =
-      rw (← (p .tags .owner .same t i), ← (p .tags .place .same t i)) (go (ltb (ownerOf (h .bridge) t) 8) refl)
-    where
-      k : ℕ
-      k = ownerOf (h .bridge) t
-
-      place : ℕ
-      place = placeOf (h .bridge) t
-
-      inside : place < 4096
-      inside = let r = open-room (missingOf (h .bridge) t) place w in let n = open-not (missingOf (h .bridge) t) place w in omega (arith, r, n)
-
-      read-of : Held → Held
-      read-of a = pieceClosed k (held (shut t (failed k place Timeout (a .bridge))) (a .store))
-
-      word-of : Held → Held
-      word-of a =
-          held (shut t (coreIn (raisedCore 8 (withConfig (configDone (a .bridge .core .config) slverr 0) (a .bridge .core))) (a .bridge)))
-          (a .store)
-
-      read-slot : k < 8 → (j : ℕ) → j < 8 → Dec (j ≡ k) → SlotOf j (read-of h) (read-of g)
-      read-slot small j m (yes e) =
-          subst (λ (v : ℕ). SlotOf v (read-of h) (read-of g)) (sym e)
-          (failed-timed o l u h g k place Timeout small (p .reads t b i small) p (s .slots k small) (s .early) (s .late) inside t)
-      read-slot small j m (no e) =
-          other-slot j k t h (read-of h) g (read-of g) e refl (late-kept h t k place small (s .early)) (late-kept g t k place small (s .late)) (s .slots j m)
-
-      go : (z : Bool) → ltb k 8 ≡ z → Stores (cond z (read-of h) (word-of h)) (cond z (read-of g) (word-of g))
-      go true e =
-          let small : k < 8 = ltb-true _ _ e in
-          record {
-            early = rw (late-kept h t k place small (s .early) .store .room) (s .early);
-            late = rw (late-kept g t k place small (s .late) .store .room) (s .late);
-            slots = λ j m. read-slot small j m (ℕ-discrete j k);
-          }
-      go false e =
-          let big : 8 ≤ k = ltb-false _ _ e in
-          record {
-            early = s .early;
-            late = s .late;
-            slots = λ j m. shut-slot j t (h .bridge .state) (h .bridge .cause) (h .bridge .size) (h .bridge .missing) (h .bridge .owner) (h .bridge .place) (h .store) (g .store) (λ q. absurd (omega (arith, big, m, q))) (s .slots j m);
-          }
-
-  expire-stores : (h g : Held) (t : ℕ) → Twin o l u (h .bridge) (g .bridge) → Stores h g → Stores (expire h t) (expire g t)
-  unfolding expire
-  expire-stores h g t p s = rw (← (old-same o l u (h .bridge) (g .bridge) t p)) (go (isOld (h .bridge) t) refl)
-    where
-      go : (z : Bool) → isOld (h .bridge) t ≡ z → Stores (cond z (timedOut t h) h) (cond z (timedOut t g) g)
-      go true e =
-          let w = old-open (h .bridge) t e in
-          let n : Open (h .bridge) t = open-not (missingOf (h .bridge) t) (placeOf (h .bridge) t) w in
-          timed-stores h g t (open-below o l u (h .bridge) (g .bridge) t p n) (open-used o l u (h .bridge) (g .bridge) t p n) w p s
-      go false e = s
-
-  pub expire-to-stores : (h g : Held) (n : ℕ) → Twin o l u (h .bridge) (g .bridge) → Stores h g → Stores (expireTo h n) (expireTo g n)
-  unfolding expireTo
-  expire-to-stores h g zero p s = s
-  expire-to-stores h g (suc n) p s =
-      expire-stores (expireTo h n) (expireTo g n) n (expire-to-twin o l u h g n p) (expire-to-stores h g n p s)
-
-  -- ---- the link goes down
-
-  -- of finished reads alone
-  record Finals (h g : Held) : Type 0 where
-    early : storeSize ≤ length (h .store)
-    late : storeSize ≤ length (g .store)
-    slots : (k : ℕ) → k < 8 → getD (h .bridge .state) k 0 ≡ 2 → (i : ℕ) → i < sizeOf (h .bridge) k → SameAt k i (h .store) (g .store)
-
-  drop-finals : (h g : Held) (k : ℕ) → k < 8 → Twin o l u (h .bridge) (g .bridge) → Finals h g → Finals (dropSlot h k) (dropSlot g k)
-  unfolding dropSlot
-  drop-finals h g k small p s = rw (← (ap (λ (x : List ℕ). getD x k 0) (p .slots .state))) (go (eqb (getD (h .bridge .state) k 0) 1) refl)
-    where
-      dropped : Held → Held
-      dropped a = held (setState k slotFinished (setPieces k 0 (setCause k slverr (a .bridge)))) (zeroed k (sizeOf (a .bridge) k) (a .store))
-
-      bytes : (e : l k ≡ true) (j : ℕ) → j < 8 → Dec (j ≡ k) → getD (set (h .bridge .state) k 2) j 0 ≡ 2 → (i : ℕ) → i < sizeOf (h .bridge) j → SameAt j i (zeroed k (sizeOf (h .bridge) k) (h .store)) (zeroed k (sizeOf (h .bridge) k) (g .store))
-      bytes e j m (yes q) z i w =
-          subst (λ (v : ℕ). SameAt v i (zeroed k (sizeOf (h .bridge) k) (h .store)) (zeroed k (sizeOf (h .bridge) k) (g .store))) (sym q)
-          (zeroed-both (h .store) (g .store) k (sizeOf (h .bridge) k) i small (omega arith) (s .early) (s .late) (rw q at w))
-      bytes e j m (no q) z i w =
-          zeroed-kept (h .store) (g .store) k (sizeOf (h .bridge) k) (4096 * j + i) small (omega arith) (s .early) (s .late)
-          (s .slots j m (sym (getD-set-other (h .bridge .state) k j 2 0 q) ∙ z) i w)
-
-      go : (z : Bool) → eqb (getD (h .bridge .state) k 0) 1 ≡ z → Finals (cond z (dropped h) h) (cond z (dropped g) g)
-      go true e =
-          let w : getD (h .bridge .state) k 0 ≡ 1 = eqb-true _ _ e in
-          let f : l k ≡ true = p .slots .used k (λ n. absurd (omega (arith, n, w))) in
-          let q : sizeOf (g .bridge) k ≡ sizeOf (h .bridge) k = sym (size-same o l u (h .bridge) (g .bridge) k f p) in
-          record {
-            early = zeroed-room (h .store) k (sizeOf (h .bridge) k) small (omega arith) (s .early);
-            late = zeroed-room (g .store) k (sizeOf (g .bridge) k) small (omega arith) (s .late);
-            slots = λ j m z. rw q (bytes f j m (ℕ-discrete j k) z);
-          }
-      go false e = s
-
-  drops-finals : (h g : Held) (n : ℕ) → n ≤ 8 → Twin o l u (h .bridge) (g .bridge) → Finals h g → Finals (dropSlots h n) (dropSlots g n)
-  unfolding dropSlots
-  drops-finals h g zero m p s = s
-  drops-finals h g (suc n) m p s =
-      drop-finals (dropSlots h n) (dropSlots g n) n m (drops-twin o l u h g n p) (drops-finals h g n (omega arith) p s)
-
--- no read is open any more
-drop-shut : (h : Held) (k j : ℕ) → (j ≢ k → getD (h .bridge .state) j 0 ≢ 1) → getD (dropSlot h k .bridge .state) j 0 ≢ 1
-unfolding dropSlot
-drop-shut h k j f = go (eqb (getD (h .bridge .state) k 0) 1) refl (ℕ-discrete j k)
+closed-failable : (s : Slot) → Failable s → Failable (closedSlot s)
+closed-failable s f = by (leb (s .pieces) 1)
   where
-    go : (z : Bool) → eqb (getD (h .bridge .state) k 0) 1 ≡ z → Dec (j ≡ k) → getD (dropSlot h k .bridge .state) j 0 ≢ 1
-    go true e (yes q) = rw (e, q) (two-not-one (h .bridge .state) k)
-    go true e (no q) = rw (e, getD-set-other (h .bridge .state) k j 2 0 q) (f q)
-    go false e (yes q) = rw (e, q) (eqb-false _ _ e)
-    go false e (no q) = rw e (f q)
+    by : (z : Bool) → Failable (cond z (finishedSlot s) (record { state = s .state; size = s .size; pieces = s .pieces - 1; fault = s .fault; cause = s .cause }))
+    by true = record { used = λ z. omega arith; marked = f .marked }
+    by false = record { used = f .used; marked = f .marked }
 
-drops-shut : (h : Held) (n j : ℕ) → j < n → getD (dropSlots h n .bridge .state) j 0 ≢ 1
-unfolding dropSlots
-drops-shut h zero j m = absurd (omega arith)
-drops-shut h (suc n) j m = drop-shut (dropSlots h n) n j (λ q. drops-shut h n j (omega (arith, m, q)))
-
-pub dropped-stores : (o l : ℕ → Bool) (u : Bool) (h g : Held) → Twin o l u (h .bridge) (g .bridge) → Stores h g → Stores (dropSlots (held (linkLost (h .bridge)) (h .store)) 8) (dropSlots (held (linkLost (g .bridge)) (g .store)) 8)
-unfolding linkLost
-dropped-stores o l u h g p s =
-    let a = held (linkLost (h .bridge)) (h .store) in
-    let b = held (linkLost (g .bridge)) (g .store) in
-    let f = drops-finals o l u a b 8 (omega arith) (lost-twin o l u (h .bridge) (g .bridge) p) (record { early = s .early; late = s .late; slots = λ k m. s .slots k m .done }) in
+pub ready : (h : Held) → Sound h → (t : ℕ) → Open (h .bridge) t → Ready (h .bridge) t
+ready h v t m =
+    let b = h .bridge in
+    let k = ownerOf b t in
+    let w = owner-open b t (fine-of h v) m in
     record {
-      early = f .early;
-      late = f .late;
-      slots = λ k m. record { done = f .slots k m; part = λ z. absurd (drops-shut a 8 k m z) };
+      read = λ l.
+          let s = sym (state-below b k l) ∙ w in
+          record { used = λ z. omega (arith, s); marked = v .marked k l s };
+      word = λ l.
+          let e : k ≡ slotCount = omega (arith, owner-most b t (fine-of h v) m) in
+          let s = sym (state-config b) ∙ (ap (stateOf b) (sym e) ∙ w) in
+          λ z. omega (arith, s);
     }
+
+-- a tag is closed, slots in use stay in use: so every tag that is still open is ready
+ready-acts : {t k : ℕ} {g : Slot → Slot} {c : Core → Core} {b x : Bridge} → Acts t k shutTag g c b x
+    → (Failable (slotAt b k) → Failable (g (slotAt b k))) → (b .core .config .state ≢ 0 → c (b .core) .config .state ≢ 0)
+    → ((u : ℕ) → Open b u → Ready b u) → (u : ℕ) → Open x u → Ready x u
+ready-acts {t} {k} {g} {c} {b} {x} a f d r u m = by (ℕ-discrete u t)
+  where
+    slot : (j : ℕ) → Dec (j ≡ k) → Failable (slotAt b j) → Failable (slotAt x j)
+    slot j (yes e) s = subst (λ i. Failable (slotAt b i) → Failable (slotAt x i)) (sym e) (λ s. subst Failable (sym (a .slot)) (f s)) s
+    slot j (no n) s = subst Failable (sym (a .slots j n)) s
+
+    by : Dec (u ≡ t) → Ready x u
+    by (yes e) = absurd (m (ap (missingOf x) e ∙ same-missing (a .tag)))
+    by (no n) =
+        let o = same-owner (a .tags u n) in
+        let w = r u (λ z. m (same-missing (a .tags u n) ∙ z)) in
+        record {
+          read = λ l. subst (λ j. Failable (slotAt x j)) (sym o) (slot (ownerOf b u) (ℕ-discrete (ownerOf b u) k) (w .read (rw o at l)));
+          word = λ l. subst (λ (z : Core). z .config .state ≢ 0) (sym (a .core)) (d (w .word (rw o at l)));
+        }
+
+-- ---- a tag that is open, and old, by the tests
+
+pub test-open : (m p : ℕ) → isOpen m p ≡ true → m ≢ 0
+test-open m p e = eqb-false _ _ (not-true _ (and-left (not (eqb m 0)) (leb (p + m) 4096) e))
+
+pub waits : (b : Bridge) (t : ℕ) → isOpen (missingOf b t) (placeOf b t) ≡ true → Ready b t → ownerOf b t < slotCount → Waits b t (ownerOf b t)
+waits b t e r l =
+    record { opened = test-open (missingOf b t) (placeOf b t) e; owner = refl; inside = open-room (missingOf b t) (placeOf b t) e; small = l; slot = r .read l }
+
+old-same : {x y : Bridge} → Twin x y → (t : ℕ) → isOld x t ≡ isOld y t
+old-same {x} {y} p t =
+    look-same p (λ r. isOpen (r .missing) (r .place) && eqb (r .sent) (x .settings .limit)) false (λ r e. rw e) t
+    ∙ ap (λ s. isOpen (missingOf y t) (placeOf y t) && eqb (ageOf (y .core .ticks) (sentOf y t)) (s .limit)) (p .settings)
+
+-- ---- a tag that times out
+
+record Turn (x y : Held) : Type 0 where
+  pair : Pair x y
+  ready : (u : ℕ) → Open (x .bridge) u → Ready (x .bridge) u
+
+abbrev Fails : ℕ → ℕ → Held → Held → Type 0
+Fails t k h x =
+    Acts t k shutTag (λ s. closedSlot (faultedSlot (placeOf (h .bridge) t) (causeResponse Timeout) s)) (raisedCore (causeBit Timeout)) (h .bridge) (x .bridge)
+    × (x .store ≡ closedStore k (faultedSlot (placeOf (h .bridge) t) (causeResponse Timeout) (slotAt (h .bridge) k)) (h .store))
+
+module _ {h g : Held} (p : Turn h g) (t : ℕ) (open-test : isOpen (missingOf (h .bridge) t) (placeOf (h .bridge) t) ≡ true) where
+  opened : Open (h .bridge) t
+  opened = test-open (missingOf (h .bridge) t) (placeOf (h .bridge) t) open-test
+
+  owners : ownerOf (h .bridge) t ≡ ownerOf (g .bridge) t
+  owners = same-owner (tag-same (p .pair .twin) t opened)
+
+  read-turn : {x y : Held} → ownerOf (h .bridge) t < slotCount → Fails t (ownerOf (h .bridge) t) h x → Fails t (ownerOf (h .bridge) t) g y → Turn x y
+  read-turn l a b = record {
+    pair = fail-pair (p .pair) (waits (h .bridge) t open-test (p .ready t opened) l) shutTag (λ r. refl) (raised-cores (p .pair .twin .core) (causeBit Timeout))
+        (causeResponse Timeout) (cause-not-okay Timeout) (a .0) (b .0) (a .1) (b .1);
+    ready = ready-acts (a .0) (λ f. closed-failable _ (faulted-failable (placeOf (h .bridge) t) (causeResponse Timeout) _ (cause-not-okay Timeout) f))
+        (λ n. rw (raised-core (causeBit Timeout) (h .bridge .core) .config) n) (p .ready);
+  }
+
+  expire-turn : {x y : Held} → Expires t h x → Expires t g y → Turn x y
+  expire-turn {y = y} (memory l a e) (memory m b f) = read-turn l (a, e) (subst (λ k. Fails t k g y) (sym owners) (b, f))
+  expire-turn (memory l a e) (config m b f) = absurd (omega (arith, owners))
+  expire-turn (config l a e) (memory m b f) = absurd (omega (arith, owners))
+  expire-turn (config l a e) (config m b f) =
+      let k = ownerOf (h .bridge) t in
+      let c = p .pair .twin .core in
+      record {
+        pair = act-pair (p .pair) (a k) (b k) (λ o. refl)
+            (raised-cores (config-cores c (equal (ap (λ (z : ConfigSlot). configDone z slverr 0) (like-equal (c .config) (p .ready t opened .word l))))) 8)
+            (unused refl refl) (p .pair .twin .slots k) (rw (e, f) still) (λ s. absurd (omega arith));
+        ready = ready-acts (a k) (λ s. s) (λ n. rw (raised-core 8 (withConfig (configDone (h .bridge .core .config) slverr 0) (h .bridge .core)) .config) (λ z. omega arith)) (p .ready);
+      }
+
+-- ---- a tick
+
+-- the counters step
+stepped : {h g : Held} → Pair h g
+    → Pair (held (coreIn (withTicks (nextTick (h .bridge .core .ticks)) (h .bridge .core)) (h .bridge)) (h .store))
+    (held (coreIn (withTicks (nextTick (g .bridge .core .ticks)) (g .bridge .core)) (g .bridge)) (g .store))
+stepped {h} {g} p = record {
+  twin = record {
+    settings = p .twin .settings;
+    core = record { early = refl; late = refl; registers = p .twin .core .registers; free = p .twin .core .free; config = p .twin .core .config };
+    tags = λ t. next-like (h .bridge .core .ticks) (g .bridge .core .ticks) (tagAt (h .bridge) t) (tagAt (g .bridge) t) (p .twin .tags t);
+    slots = p .twin .slots;
+    early = let v = p .twin .early in omega arith;
+    late = let v = p .twin .late in omega arith;
+    early-clock = omega arith;
+    late-clock = omega arith;
+  };
+  early = p .early;
+  late = p .late;
+  bytes = p .bytes;
+}
+
+pub ticked-pair : (h g : Held) → Sound h → Pair h g → Pair (ticked h) (ticked g)
+unfolding ticked
+ticked-pair h g v p =
+    rw (le-ltb (length (h .store)) storeSize (p .early), le-ltb (length (g .store)) storeSize (p .late))
+    (each-tag-both (λ n. Turn) _ _
+    (record { pair = stepped p; ready = λ u m. let r = ready h v u m in record { read = r .read; word = r .word } })
+    (λ n x y q. old-same (q .pair .twin) n)
+    (λ n x y q. q)
+    (λ n x y l e q. expire-turn q n (and-left (isOpen (missingOf (x .bridge) n) (placeOf (x .bridge) n)) _ e)
+    (timed-out-expires x n (q .pair .twin .early) l) (timed-out-expires y n (q .pair .twin .late) l))
+    .pair)

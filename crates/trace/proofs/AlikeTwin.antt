@@ -1,218 +1,197 @@
--- Two bridges alike: all that an event can look at is the same in both. Counters may differ, and entries that nothing has
--- written since the bridges were left: the marks o, l and u say which tags, which slots and whether the configuration slot
--- have been used since.
-use Prim.Native.Nat.{ℕ, _+_, _-_, _^_, _≤_, _<_}
+-- Two bridges alike: all that an event can look at is the same in both. Counters may differ, and so may what is kept of a tag
+-- that is not open and of a slot that is free.
+use Prim.Native.Nat.{ℕ, _^_, _<_}
 use mathlib.Core.Path.{_≡_, refl, sym, ap, _∙_, subst}
-use mathlib.Core.Logic.{_⊎_, _≢_}
-use mathlib.Core.List.{List}
-use mathlib.Core.Bool.{Bool, true, false, cond}
+use mathlib.Core.Logic.{_≢_}
+use mathlib.Core.Bool.{Bool, cond}
+use native.Mathlib.Omega.{arith}
 use native.Mathlib.Decide.{ℕ-discrete}
-use lib.ListN.{length, getD, set, length-set}
-use lib.Seq.{getD-set-other}
-use Rattle.bits.specs.Bits.{setBit}
+use Rattle.bits.specs.Bits.{setBit, clearBit}
+use Rattle.tags.specs.Tags.{lowest}
 use Rattle.ecam.specs.declared.Registers.{Registers}
-use Rattle.ecam.specs.Registers.{raised, withDecode}
+use Rattle.ecam.specs.Registers.{localRead}
 use Rattle.parts.specs.declared.ConfigSlot.{ConfigSlot}
 use Rattle.parts.specs.declared.Core.{Core}
-use Rattle.burst.specs.Words.{lowerAddress}
-use Rattle.refusals.specs.Table.{Change, keeps, sets, changeOf}
-use Rattle.parts.specs.Answers.{changed}
-use Rattle.machine.specs.Bridge.{Bridge}
-use Rattle.machine.specs.State.{tagCount, withRegisters, withFree, withConfig, coreIn, raisedCore, raise, missingOf, ownerOf, placeOf, nextAddress, Open, counted, shut, freed, refusalChange}
-use Rattle.machine.specs.Ticks.{ageOf}
-use Rattle.trace.proofs.Settling.{entry-below}
-use Rattle.trace.proofs.AlikeTables.{zero-kept, Agree, agree-set}
+use Rattle.parts.specs.declared.Pending.{Pending}
+use Rattle.machine.specs.State.{Bridge, Tag, Slot, tagAt, slotAt, Open, tagCount, slotCount, withFree, withConfig, doneConfig, okay, raisedCore, refusalChange}
+use Rattle.machine.specs.Config.{Access, localCore}
+use Rattle.machine.specs.Ticks.{nextTick, ageOf, withLink, linkIn}
+use Rattle.bridge_laws.specs.MemoryLaws.{Tables}
+use Rattle.bridge_laws.specs.Rows.{pendingTag, freedCore, takenCore}
+use Rattle.bridge_laws.specs.Effects.{Acts}
+use Rattle.bridge_laws.proofs.Parts.{same-missing, same-sent, same-owner, same-place, same-next, same-kind}
+use Rattle.bridge_laws.proofs.Cores.{Registered, raised-core, refusal-core, local-core}
+use Rattle.bridge_laws.proofs.BothTurns.{raised-same, refusal-same, local-same}
 
 -- ---- the relation
 
-pub record Cores (u : Bool) (c d : Core) : Type 0 where
+-- two rows are the same, or neither is in use, where a number of theirs is not 0
+pub data Like {A : Type 0} (n : A → ℕ) (r s : A) : Type 0 where
+  equal : r ≡ s → Like n r s
+  unused : n r ≡ 0 → n s ≡ 0 → Like n r s
+
+pub like-number : {A : Type 0} {n : A → ℕ} {r s : A} → Like n r s → n r ≡ n s
+like-number {n = n} (equal e) = ap n e
+like-number (unused e f) = e ∙ sym f
+
+pub like-equal : {A : Type 0} {n : A → ℕ} {r s : A} → Like n r s → n r ≢ 0 → r ≡ s
+like-equal (equal e) m = e
+like-equal (unused e f) m = absurd (m e)
+
+pub like-of : {A : Type 0} {n : A → ℕ} {r s r' s' : A} → r' ≡ r → s' ≡ s → Like n r s → Like n r' s'
+like-of e f p = rw (e, f) p
+
+-- a tag's row with its age in place of the tick of sending
+abbrev pub aged : ℕ → Tag → Tag
+aged now r =
+    record { missing = r .missing; sent = ageOf now (r .sent); owner = r .owner; place = r .place; next = r .next; kind = r .kind }
+
+-- on the counters n and m
+abbrev pub TagsLike : ℕ → ℕ → Tag → Tag → Type 0
+TagsLike n m r s = Like (λ (x : Tag). x .missing) (aged n r) (aged m s)
+
+abbrev pub SlotsLike : Slot → Slot → Type 0
+SlotsLike r s = Like (λ (x : Slot). x .state) r s
+
+abbrev pub ConfigsLike : ConfigSlot → ConfigSlot → Type 0
+ConfigsLike c d = Like (λ (x : ConfigSlot). x .state) c d
+
+-- cores whose counters are n and m
+pub record Cores (n m : ℕ) (c d : Core) : Type 0 where
+  pub early : c .ticks ≡ n
+  pub late : d .ticks ≡ m
   pub registers : c .registers ≡ d .registers
   pub free : c .free ≡ d .free
-  pub state : c .config .state ≡ d .config .state
-  pub config : u ≡ true → c .config ≡ d .config
-  pub used : c .config .state ≢ 0 → u ≡ true
-  pub early : c .ticks < 2 ^ 32
-  pub late : d .ticks < 2 ^ 32
+  pub config : ConfigsLike (c .config) (d .config)
 
--- the counters; then missing, sent, owner, place, next and kind of each
-pub record Tags (o : ℕ → Bool) (n m : ℕ) (mx sx ox px ax kx my sy oy py ay ky : List ℕ) : Type 0 where
-  pub missing : mx ≡ my
-  pub owner : Agree o ox oy
-  pub place : Agree o px py
-  pub next : Agree o ax ay
-  pub kind : Agree o kx ky
-  pub age : (t : ℕ) → t < tagCount → o t ≡ true → ageOf n (getD sx t 0) ≡ ageOf m (getD sy t 0)
-  pub rooms : length mx ≡ tagCount
-  pub owners : length ox ≡ tagCount
-  pub early : length sx ≡ tagCount
-  pub late : length sy ≡ tagCount
-  pub used : (t : ℕ) → getD mx t 0 ≢ 0 → o t ≡ true
-
--- state, size, pieces, fault and cause of each
-pub record Slots (l : ℕ → Bool) (sx nx qx fx ex sy ny qy fy ey : List ℕ) : Type 0 where
-  pub state : sx ≡ sy
-  pub size : Agree l nx ny
-  pub pieces : Agree l qx qy
-  pub fault : Agree l fx fy
-  pub cause : Agree l ex ey
-  pub used : (k : ℕ) → getD sx k 0 ≢ 0 → l k ≡ true
-  pub below : (k : ℕ) → l k ≡ true → k < 8
-  pub faults : length fx ≡ 8
-  pub causes : length ex ≡ 8
-  -- a read in which a piece has failed has the failure's response
-  pub marked : (k : ℕ) → l k ≡ true → (getD fx k 0 ≡ 4096) ⊎ (getD ex k 0 ≢ 0)
-
-abbrev pub TagsOf : (ℕ → Bool) → Bridge → Bridge → Type 0
-TagsOf o x y =
-    Tags o (x .core .ticks) (y .core .ticks) (x .missing) (x .sent) (x .owner) (x .place) (x .next) (x .kind) (y .missing) (y .sent)
-    (y .owner) (y .place) (y .next) (y .kind)
-
-abbrev pub SlotsOf : (ℕ → Bool) → Bridge → Bridge → Type 0
-SlotsOf l x y =
-    Slots l (x .state) (x .size) (x .pieces) (x .fault) (x .cause) (y .state) (y .size) (y .pieces) (y .fault) (y .cause)
-
-pub record Twin (o l : ℕ → Bool) (u : Bool) (x y : Bridge) : Type 0 where
+pub record Twin (x y : Bridge) : Type 0 where
   pub settings : x .settings ≡ y .settings
-  pub core : Cores u (x .core) (y .core)
-  pub tags : TagsOf o x y
-  pub slots : SlotsOf l x y
-  -- a tag used names a slot used
-  pub reads : (t : ℕ) → t < tagCount → o t ≡ true → ownerOf x t < 8 → l (ownerOf x t) ≡ true
-  pub words : (t : ℕ) → t < tagCount → o t ≡ true → 8 ≤ ownerOf x t → u ≡ true
+  pub core : Cores (x .core .ticks) (y .core .ticks) (x .core) (y .core)
+  pub tags : (t : ℕ) → TagsLike (x .core .ticks) (y .core .ticks) (tagAt x t) (tagAt y t)
+  pub slots : (k : ℕ) → k < slotCount → SlotsLike (slotAt x k) (slotAt y k)
+  pub early : Tables x
+  pub late : Tables y
+  pub early-clock : x .core .ticks < 2 ^ 32
+  pub late-clock : y .core .ticks < 2 ^ 32
 
--- ---- the core
+module _ {x y : Bridge} (p : Twin x y) where
+  pub tag-same : (t : ℕ) → Open x t → aged (x .core .ticks) (tagAt x t) ≡ aged (y .core .ticks) (tagAt y t)
+  tag-same t m = like-equal (p .tags t) m
 
-module _ (u : Bool) where
-  -- registers that one function of the registers gives
-  pub core-registers : (f : Registers → Registers) (c d : Core) → Cores u c d → Cores u (withRegisters (f (c .registers)) c) (withRegisters (f (d .registers)) d)
-  core-registers f c d t =
+  -- what is looked at of an open tag alone is the same in both
+  pub look-same : {A : Type 0} (f : Tag → A) (z : A) → ((r : Tag) → r .missing ≡ 0 → f r ≡ z)
+      → (t : ℕ) → f (aged (x .core .ticks) (tagAt x t)) ≡ f (aged (y .core .ticks) (tagAt y t))
+  look-same f z closed t = by (p .tags t)
+    where
+      by : TagsLike (x .core .ticks) (y .core .ticks) (tagAt x t) (tagAt y t) → f (aged (x .core .ticks) (tagAt x t)) ≡ f (aged (y .core .ticks) (tagAt y t))
+      by (equal e) = ap f e
+      by (unused d e) = closed _ d ∙ sym (closed _ e)
+
+-- ---- cores
+
+module _ {n m : ℕ} {c d : Core} (p : Cores n m c d) where
+  pub config-cores : {a b : ConfigSlot} → ConfigsLike a b → Cores n m (withConfig a c) (withConfig b d)
+  config-cores e = record { early = p .early; late = p .late; registers = p .registers; free = p .free; config = e }
+
+  pub free-cores : (f : ℕ → ℕ) → Cores n m (withFree (f (c .free)) c) (withFree (f (d .free)) d)
+  free-cores f = record { early = p .early; late = p .late; registers = p .registers; free = ap f (p .free); config = p .config }
+
+  pub freed-cores : (t : ℕ) → Cores n m (freedCore t c) (freedCore t d)
+  freed-cores t = free-cores (λ w. setBit tagCount w t)
+
+  pub taken-cores : Cores n m (takenCore c) (takenCore d)
+  taken-cores = free-cores (λ w. clearBit w (lowest tagCount w))
+
+  pub link-cores : (up : Bool) → Cores n m (linkIn up c) (linkIn up d)
+  link-cores up = record { early = p .early; late = p .late; registers = ap (λ (r : Registers). withLink r up) (p .registers); free = p .free; config = p .config }
+
+  -- registers alone
+  registered-cores : {c' d' : Core} → Registered c c' → Registered d d' → c' .registers ≡ d' .registers → Cores n m c' d'
+  registered-cores a b e =
       record {
-        registers = ap f (t .registers);
-        free = t .free;
-        state = t .state;
-        config = t .config;
-        used = t .used;
-        early = t .early;
-        late = t .late;
+        early = a .ticks ∙ p .early;
+        late = b .ticks ∙ p .late;
+        registers = e;
+        free = a .free ∙ (p .free ∙ sym (b .free));
+        config = like-of (a .config) (b .config) (p .config);
       }
 
-  pub core-raised : (i : ℕ) (c d : Core) → Cores u c d → Cores u (raisedCore i c) (raisedCore i d)
-  unfolding raisedCore
-  core-raised i c d t = core-registers (λ (r : Registers). withDecode r (raised (r .decode) i)) c d t
+  pub raised-cores : (i : ℕ) → Cores n m (raisedCore i c) (raisedCore i d)
+  raised-cores i = registered-cores (raised-core i c) (raised-core i d) (raised-same i c d (p .registers))
 
-  pub core-free : (v w : ℕ) (c d : Core) → v ≡ w → Cores u c d → Cores u (withFree v c) (withFree w d)
-  core-free v w c d e t =
+  pub refused-cores : (i : ℕ) → Cores n m (refusalChange i c) (refusalChange i d)
+  refused-cores i = registered-cores (refusal-core i c) (refusal-core i d) (refusal-same i c d (p .registers))
+
+  pub local-cores : (a : Access) (w : ℕ) → Cores n m (localCore c a w) (localCore d a w)
+  local-cores a w =
+      let e = local-core c a w in
+      let f = local-core d a w in
       record {
-        registers = t .registers;
-        free = e;
-        state = t .state;
-        config = t .config;
-        used = t .used;
-        early = t .early;
-        late = t .late;
+        early = e .ticks ∙ p .early;
+        late = f .ticks ∙ p .late;
+        registers = local-same a w c d (p .registers);
+        free = e .free ∙ (p .free ∙ sym (f .free));
+        config = equal (e .config ∙ (ap (λ (r : Registers). doneConfig (a .write) okay (cond (a .write) 0 (localRead r w))) (p .registers) ∙ sym (f .config)));
       }
 
--- the configuration slot put anew, and used from then on
-pub core-config : (u : Bool) (a b : ConfigSlot) (c d : Core) → a ≡ b → Cores u c d → Cores true (withConfig a c) (withConfig b d)
-core-config u a b c d e t =
+-- ---- steps
+
+-- by the settings, the core and every row, on the counters of before
+pub twin-of : {b y x z : Bridge} {c d : Core} → Twin b y → x .settings ≡ b .settings → z .settings ≡ y .settings → x .core ≡ c → z .core ≡ d
+    → Cores (b .core .ticks) (y .core .ticks) c d → ((t : ℕ) → TagsLike (b .core .ticks) (y .core .ticks) (tagAt x t) (tagAt z t))
+    → ((k : ℕ) → k < slotCount → SlotsLike (slotAt x k) (slotAt z k)) → Tables x → Tables z → Twin x z
+twin-of {b} {y} {x} {z} p e f i j core tags slots u v =
+    let m : x .core .ticks ≡ b .core .ticks = ap (λ (a : Core). a .ticks) i ∙ core .early in
+    let n : z .core .ticks ≡ y .core .ticks = ap (λ (a : Core). a .ticks) j ∙ core .late in
     record {
-      registers = t .registers;
-      free = t .free;
-      state = ap (λ (s : ConfigSlot). s .state) e;
-      config = λ z. e;
-      used = λ z. refl;
-      early = t .early;
-      late = t .late;
+      settings = e ∙ (p .settings ∙ sym f);
+      core = record {
+        early = refl;
+        late = refl;
+        registers = rw (i, j) (core .registers);
+        free = rw (i, j) (core .free);
+        config = rw (i, j) (core .config);
+      };
+      tags = λ t. rw (m, n) (tags t);
+      slots = slots;
+      early = u;
+      late = v;
+      early-clock = rw m (p .early-clock);
+      late-clock = rw n (p .late-clock);
     }
 
--- ---- bridges
+-- on one tag, one slot and the core
+module _ {t k : ℕ} {f f' : Tag → Tag} {g g' : Slot → Slot} {c c' : Core → Core} {b y x z : Bridge} (p : Twin b y)
+    (m : Acts t k f g c b x) (n : Acts t k f' g' c' y z)
+    (core : Cores (b .core .ticks) (y .core .ticks) (c (b .core)) (c' (y .core)))
+    (tag : TagsLike (b .core .ticks) (y .core .ticks) (f (tagAt b t)) (f' (tagAt y t)))
+    (slot : k < slotCount → SlotsLike (g (slotAt b k)) (g' (slotAt y k))) where
+  tag-of : (u : ℕ) → Dec (u ≡ t) → TagsLike (b .core .ticks) (y .core .ticks) (tagAt x u) (tagAt z u)
+  tag-of u (yes e) =
+      subst (λ i. TagsLike (b .core .ticks) (y .core .ticks) (tagAt x i) (tagAt z i)) (sym e)
+      (like-of (ap (aged (b .core .ticks)) (m .tag)) (ap (aged (y .core .ticks)) (n .tag)) tag)
+  tag-of u (no d) = like-of (ap (aged (b .core .ticks)) (m .tags u d)) (ap (aged (y .core .ticks)) (n .tags u d)) (p .tags u)
 
-module _ (o l : ℕ → Bool) (u : Bool) where
-  -- an open tag is one of the tags, and used
-  pub open-below : (x y : Bridge) (t : ℕ) → Twin o l u x y → Open x t → t < tagCount
-  open-below x y t p n = let h : t < length (x .missing) = entry-below (x .missing) t n in rw (p .tags .rooms) at h
+  slot-of : (j : ℕ) → j < slotCount → Dec (j ≡ k) → SlotsLike (slotAt x j) (slotAt z j)
+  slot-of j l (yes e) = subst (λ i. SlotsLike (slotAt x i) (slotAt z i)) (sym e) (like-of (m .slot) (n .slot) (slot (rw e at l)))
+  slot-of j l (no d) = like-of (m .slots j d) (n .slots j d) (p .slots j l)
 
-  pub open-used : (x y : Bridge) (t : ℕ) → Twin o l u x y → Open x t → o t ≡ true
-  open-used x y t p n = p .tags .used t n
+  pub act-twin : Twin x z
+  act-twin =
+      twin-of p (m .settings) (n .settings) (m .core) (n .core) core (λ u. tag-of u (ℕ-discrete u t)) (λ j l. slot-of j l (ℕ-discrete j k))
+      (m .tables) (n .tables)
 
-  pub either-twin : (z : Bool) (x x' y y' : Bridge) → Twin o l u x y → Twin o l u x' y' → Twin o l u (cond z x x') (cond z y y')
-  either-twin true x x' y y' p q = p
-  either-twin false x x' y y' p q = q
+-- ---- ages
 
-  -- another core; its counters' ages are as before
-  pub core-twin : (x y : Bridge) (c d : Core) → Cores u c d → TagsOf o (coreIn c x) (coreIn d y) → Twin o l u x y → Twin o l u (coreIn c x) (coreIn d y)
-  core-twin x y c d p q t =
-      record { settings = t .settings; core = p; tags = q; slots = t .slots; reads = t .reads; words = t .words }
+-- a tag opened now has the age 0, on any counter
+pub pending-like : (n m : ℕ) (r : Pending) → n < 2 ^ 32 → m < 2 ^ 32 → TagsLike n m (pendingTag n r) (pendingTag m r)
+pending-like n m r a b =
+    let e : ageOf n n ≡ ageOf m m = omega arith in
+    equal (rw e)
 
-  pub raise-twin : (x y : Bridge) (i : ℕ) → Twin o l u x y → Twin o l u (raise i x) (raise i y)
-  unfolding raisedCore
-  raise-twin x y i t = core-twin x y (raisedCore i (x .core)) (raisedCore i (y .core)) (core-raised u i (x .core) (y .core) (t .core)) (t .tags) t
-
-  -- the change of a refusal
-  pub refused-twin : (x y : Bridge) (n : ℕ) → Twin o l u x y → Twin o l u (coreIn (refusalChange n (x .core)) x) (coreIn (refusalChange n (y .core)) y)
-  unfolding refusalChange
-  refused-twin x y n t = go (changeOf n)
-    where
-      go : (z : Change) → Twin o l u (coreIn (changed z (x .core)) x) (coreIn (changed z (y .core)) y)
-      go keeps = t
-      go (sets i) = raise-twin x y i t
-
-  -- ---- tags
-
-  pub shut-twin : (x y : Bridge) (t : ℕ) → Twin o l u x y → Twin o l u (shut t x) (shut t y)
-  unfolding shut
-  shut-twin x y t p = record {
-    settings = p .settings;
-    core = p .core;
-    tags = record {
-      missing = ap (λ (m : List ℕ). set m t 0) (p .tags .missing);
-      owner = p .tags .owner;
-      place = p .tags .place;
-      next = p .tags .next;
-      kind = p .tags .kind;
-      age = p .tags .age;
-      rooms = length-set (x .missing) t 0 ∙ p .tags .rooms;
-      owners = p .tags .owners;
-      early = p .tags .early;
-      late = p .tags .late;
-      used = λ w n. p .tags .used w (λ e. n (zero-kept (x .missing) t w e));
-    };
-    slots = p .slots;
-    reads = p .reads;
-    words = p .words;
-  }
-
-  pub freed-twin : (x y : Bridge) (t : ℕ) → Twin o l u x y → Twin o l u (freed t x) (freed t y)
-  unfolding freed
-  freed-twin x y t p =
-      core-twin x y (freed t x .core) (freed t y .core)
-      (core-free u (setBit tagCount (x .core .free) t) (setBit tagCount (y .core .free) t) (x .core) (y .core) (ap (λ (w : ℕ). setBit tagCount w t) (p .core .free)) (p .core))
-      (p .tags) p
-
-  -- a tag that is open has its place in both; one that is not stays so
-  pub counted-twin : (x y : Bridge) (t n : ℕ) → o t ≡ true → Twin o l u x y → Twin o l u (counted t n x) (counted t n y)
-  unfolding counted
-  counted-twin x y t n e p = record {
-    settings = p .settings;
-    core = p .core;
-    tags = record {
-      missing = ap (λ (m : List ℕ). set m t (getD m t 0 - n)) (p .tags .missing);
-      owner = p .tags .owner;
-      place = agree-set o (x .place) (y .place) t (placeOf x t + n) (placeOf y t + n) (p .tags .place) (λ z. ap (λ (i : ℕ). i + n) (p .tags .place .same t e));
-      next = agree-set o (x .next) (y .next) t (lowerAddress (nextAddress x t + n)) (lowerAddress (nextAddress y t + n)) (p .tags .next) (λ z. ap (λ (i : ℕ). lowerAddress (i + n)) (p .tags .next .same t e));
-      kind = p .tags .kind;
-      age = p .tags .age;
-      rooms = length-set (x .missing) t (missingOf x t - n) ∙ p .tags .rooms;
-      owners = p .tags .owners;
-      early = p .tags .early;
-      late = p .tags .late;
-      used = λ w z. go w z (ℕ-discrete w t);
-    };
-    slots = p .slots;
-    reads = p .reads;
-    words = p .words;
-  }
-    where
-      go : (w : ℕ) → getD (set (x .missing) t (missingOf x t - n)) w 0 ≢ 0 → Dec (w ≡ t) → o w ≡ true
-      go w z (yes q) = subst (λ (i : ℕ). o i ≡ true) (sym q) e
-      go w z (no q) = p .tags .used w (λ i. z (getD-set-other (x .missing) t w (missingOf x t - n) 0 q ∙ i))
+-- a tick adds one to every age
+pub next-like : (n m : ℕ) (r s : Tag) → TagsLike n m r s → TagsLike (nextTick n) (nextTick m) r s
+next-like n m r s (equal e) =
+    let a : ageOf (nextTick n) (r .sent) ≡ ageOf (nextTick m) (s .sent) = omega (arith, same-sent e) in
+    equal (λ i. record { missing = same-missing e i; sent = a i; owner = same-owner e i; place = same-place e i; next = same-next e i; kind = same-kind e i })
+next-like n m r s (unused e f) = unused e f

@@ -2,7 +2,7 @@
 use Prim.Native.Nat.{ℕ, zero, suc, _+_, _≤_, _<_}
 use mathlib.Core.Path.{_≡_, refl, sym, ap, _∙_}
 use mathlib.Core.Logic.{_≢_}
-use mathlib.Core.Bool.{Bool, true, false, cond, not, _&&_}
+use mathlib.Core.Bool.{Bool, true, false, cond, not}
 use native.Mathlib.Omega.{arith}
 use native.Mathlib.Decide.{ℕ-discrete}
 use lib.Dec.{eqb}
@@ -10,8 +10,10 @@ use borrow.Author.Tests.{eqb-true, eqb-false, eq-eqb, ne-eqb, not-true}
 use Rattle.common.proofs.Tests.{and-left, and-right}
 use Rattle.machine.specs.Bridge.{Bridge}
 use Rattle.machine.specs.State.{missingOf, ownerOf, Open}
-use Rattle.machine.proofs.Judging.{never}
 use Rattle.trace.specs.Sound.{named, openIn}
+use Rattle.trace.proofs.Cases.{at-each, by-test}
+
+-- ---- whether a tag is open for a slot
 
 pub record Names (b : Bridge) (k t : ℕ) : Type 0 where
   pub missing : Open b t
@@ -29,51 +31,57 @@ is-named b k t m o = rw (ne-eqb _ _ m, eq-eqb _ _ o)
 pub closed-unnamed : (b : Bridge) (k t : ℕ) → missingOf b t ≡ 0 → named b k t ≡ false
 closed-unnamed b k t m = rw (eq-eqb _ _ m)
 
-unnamed-by : (x : Bool) → x && false ≡ false
-unnamed-by true = refl
-unnamed-by false = refl
-
-pub other-unnamed : (b : Bridge) (k t : ℕ) → ownerOf b t ≢ k → named b k t ≡ false
-other-unnamed b k t o = rw (ne-eqb _ _ o) (unnamed-by (not (eqb (missingOf b t) 0)))
-
 -- a test depends on the two numbers alone
 pub named-same : (b x : Bridge) (k t : ℕ) → missingOf x t ≡ missingOf b t → ownerOf x t ≡ ownerOf b t → named x k t ≡ named b k t
 named-same b x k t m o = rw (m, o)
+
+-- what a tag adds to a slot's count
+abbrev pub weight : Bridge → ℕ → ℕ → ℕ
+weight b k t = cond (named b k t) 1 0
+
+pub weighs : (b : Bridge) (k t : ℕ) → Open b t → ownerOf b t ≡ k → weight b k t ≡ 1
+weighs b k t m o = rw (is-named b k t m o)
+
+pub weightless : (b : Bridge) (k t : ℕ) → missingOf b t ≡ 0 → weight b k t ≡ 0
+weightless b k t m = rw (closed-unnamed b k t m)
+
+-- a tag that is open for slot k at most counts for no other
+pub no-weight : (b : Bridge) (t k j : ℕ) → (Open b t → ownerOf b t ≡ k) → j ≢ k → weight b j t ≡ 0
+no-weight b t k j o d =
+    by-test (λ (n : ℕ). n ≡ 0) (named b j t) (λ e. let n = named-is b j t e in absurd (d (sym (n .owner) ∙ o (n .missing)))) (λ e. refl)
+
+-- ---- how many are
 
 pub open-same : (b x : Bridge) (k n : ℕ) → ((u : ℕ) → named x k u ≡ named b k u) → openIn x k n ≡ openIn b k n
 unfolding openIn
 open-same b x k zero h = refl
 open-same b x k (suc n) h = rw (open-same b x k n h, h n)
 
--- one tag more is open
+-- where every tag but t counts as before, the counts differ by what t adds
 module _ (b x : Bridge) (k t : ℕ) (others : (u : ℕ) → u ≢ t → named x k u ≡ named b k u) where
   below : (n : ℕ) → n ≤ t → openIn x k n ≡ openIn b k n
   unfolding openIn
   below zero h = refl
   below (suc n) h = rw (below n (omega arith), others n (λ e. omega arith))
 
-  pub open-more : named b k t ≡ false → named x k t ≡ true → (n : ℕ) → t < n → openIn x k n ≡ suc (openIn b k n)
+  pub open-change : (n : ℕ) → t < n → openIn x k n + weight b k t ≡ openIn b k n + weight x k t
   unfolding openIn
-  open-more f g zero h = absurd (omega arith)
-  open-more f g (suc n) h = go (ℕ-discrete n t) (open-more f g n)
+  open-change zero h = absurd (omega arith)
+  open-change (suc n) h = go (ℕ-discrete n t) (open-change n)
     where
-      go : Dec (n ≡ t) → (t < n → openIn x k n ≡ suc (openIn b k n)) → openIn x k (suc n) ≡ suc (openIn b k (suc n))
-      go (yes e) ih =
-          let p : _≡_ {A = ℕ} (cond (named b k n) 1 0) 0 = rw (e, f) in
-          let q : _≡_ {A = ℕ} (cond (named x k n) 1 0) 1 = rw (e, g) in
-          omega (arith, below n (omega arith), p, q)
+      go : Dec (n ≡ t) → (t < n → openIn x k n + weight b k t ≡ openIn b k n + weight x k t)
+          → openIn x k (suc n) + weight b k t ≡ openIn b k (suc n) + weight x k t
+      go (yes e) ih = omega (arith, below n (omega arith), ap (weight b k) e, ap (weight x k) e)
       go (no e) ih =
-          let p : _≡_ {A = ℕ} (cond (named x k n) 1 0) (cond (named b k n) 1 0) = rw (others n e) in
+          let p : weight x k n ≡ weight b k n = rw (others n e) in
           omega (arith, ih (omega arith), p)
 
 pub open-counted : (b : Bridge) (k t n : ℕ) → named b k t ≡ true → t < n → 0 < openIn b k n
 unfolding openIn
 open-counted b k t zero e h = absurd (omega arith)
-open-counted b k t (suc n) e h = go (ℕ-discrete n t) (open-counted b k t n e)
-  where
-    go : Dec (n ≡ t) → (t < n → 0 < openIn b k n) → 0 < openIn b k (suc n)
-    go (yes z) ih = let p : _≡_ {A = ℕ} (cond (named b k n) 1 0) 1 = rw (z, e) in omega (arith, p)
-    go (no z) ih = omega (arith, ih (omega arith))
+open-counted b k t (suc n) e h =
+    at-each (λ i. named b k i ≡ true → i < suc n → 0 < openIn b k n + weight b k n) n (λ f l. let p : weight b k n ≡ 1 = rw f in omega (arith, p))
+    (λ i d f l. omega (arith, open-counted b k i n f (omega arith))) t e h
 
 -- where some are open, one can be named
 pub record Found (b : Bridge) (k n : ℕ) : Type 0 where
@@ -84,14 +92,9 @@ pub record Found (b : Bridge) (k n : ℕ) : Type 0 where
 pub open-found : (b : Bridge) (k n : ℕ) → 0 < openIn b k n → Found b k n
 unfolding openIn
 open-found b k zero h = absurd (omega arith)
-open-found b k (suc n) h = go (named b k n) refl (open-found b k n)
-  where
-    go : (z : Bool) → named b k n ≡ z → (0 < openIn b k n → Found b k n) → Found b k (suc n)
-    go true e ih = record { tag = n; low = omega arith; names = e }
-    go false e ih =
-        let p : _≡_ {A = ℕ} (cond (named b k n) 1 0) 0 = rw e in
-        let f = ih (omega (arith, p)) in
-        record { tag = f .tag; low = omega (arith, f .low); names = f .names }
+open-found b k (suc n) h =
+    by-test (λ (w : ℕ). 0 < openIn b k n + w → Found b k (suc n)) (named b k n) (λ e l. record { tag = n; low = omega arith; names = e })
+    (λ e l. let f = open-found b k n (omega arith) in record { tag = f .tag; low = omega (arith, f .low); names = f .names }) h
 
 -- where none is, every tag of the slot is closed
 pub open-none : (b : Bridge) (k n t : ℕ) → openIn b k n ≡ 0 → t < n → named b k t ≡ false
@@ -100,3 +103,9 @@ open-none b k n t e h = go (named b k t) refl
     go : (z : Bool) → named b k t ≡ z → named b k t ≡ false
     go true f = absurd (omega (arith, open-counted b k t n f h))
     go false f = f
+
+-- where no tag is open, none is counted
+pub all-closed : (b : Bridge) (k n : ℕ) → ((t : ℕ) → missingOf b t ≡ 0) → openIn b k n ≡ 0
+unfolding openIn
+all-closed b k zero h = refl
+all-closed b k (suc n) h = omega (arith, all-closed b k n h, weightless b k n (h n))

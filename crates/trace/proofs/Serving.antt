@@ -1,269 +1,222 @@
--- A completion or a timeout for a memory read keeps what holds of every state.
-use Prim.Native.Nat.{ℕ, zero, suc, _+_, _-_, _*_, _^_, _≤_, _<_}
+-- A completion or a timeout keeps what holds of every state.
+use Prim.Native.Nat.{ℕ, _+_, _≤_, _<_}
 use mathlib.Core.Path.{_≡_, refl, sym, ap, _∙_, subst}
-use mathlib.Core.Logic.{_⊎_, inl, inr, _≢_}
-use mathlib.Core.List.{List, [], _∷_}
-use mathlib.Core.Bool.{Bool, true, false, cond}
+use mathlib.Core.Logic.{inr, _≢_}
+use mathlib.Core.List.{List}
+use mathlib.Core.Bool.{false}
 use native.Mathlib.Omega.{arith}
-use native.Mathlib.Decide.{ℕ-discrete}
-use lib.ListN.{length, getD, length-set}
-use lib.Seq.{paste, getD-set-same, getD-set-other}
-use lib.Dec.{leb, eqb}
+use lib.ListN.{getD}
+use lib.Dec.{ltb, leb}
+use borrow.Author.Tests.{leb-true, leb-false}
 use Rattle.bits.specs.Bits.{isSet}
-use Rattle.address.specs.Settings.{settingsNumber}
-use Rattle.machine.specs.Bridge.{Bridge}
+use Rattle.bits.proofs.Bits.{set-sets}
+use Rattle.parts.specs.declared.ConfigSlot.{ConfigSlot}
+use Rattle.parts.specs.declared.Core.{Core}
 use Rattle.verdict.specs.declared.Cause.{Cause}
-use Rattle.verdict.specs.declared.Cause.the-variants.{Poison, Timeout}
+use Rattle.verdict.specs.declared.Cause.the-variants.{UnsupportedRequest, RequestRetry, CompleterAbort, Poison, Timeout}
 use Rattle.verdict.specs.declared.Verdict.{Verdict}
-use Rattle.machine.specs.State.{tagCount, setPieces, missingOf, ownerOf, placeOf, Open, counted, shut, freed}
-use Rattle.machine.specs.Completions.{Held, held, failed, finished, pieceClosed, closed, usefulBytes}
+use Rattle.verdict.specs.declared.Verdict.the-variants.{Unexpected, Good, Poisoned, Failed}
+use Rattle.machine.specs.State.{Bridge, Tag, Slot, tagAt, slotAt, tagCount, missingOf, ownerOf, placeOf, Open, withConfig, slverr}
+use Rattle.machine.specs.Verdict.{causeResponse, causeBit}
+use Rattle.machine.specs.Completions.{Held, configAnswer, configDone, configCompleted, isUnexpected}
 use Rattle.machine.specs.Take.{stateOf}
-use Rattle.bridge_laws.specs.CompletionLaws.{Elsewhere}
-use Rattle.trace.specs.Sound.{named, openIn, piecesIn, Sizes}
-use Rattle.trace.proofs.Counts.{named-same, is-named, other-unnamed, open-same}
-use Rattle.trace.proofs.Touch.{Touched, touched-none, touched-then, counted-touched, shut-touched, freed-touched, failed-touched, TagsAlone, failed-alone, failed-marks, Served, good-part, good-last, poison-part, poison-last, failing}
-use Rattle.trace.proofs.Settling.{TagFits, Fine, state-below, state-same, pieces-same, owner-open, entry-below, tag-below, Closes, closes, closes-fine}
+use Rattle.machine.proofs.Judging.{never}
+use Rattle.bridge_laws.specs.Rows.{countedTag, shutTag, faultedSlot, closedSlot, freedCore}
+use Rattle.bridge_laws.specs.Effects.{Acts, same, Serves, good-part, good-last, poison-part, poison-last, fails, Expires, memory, config}
+use Rattle.bridge_laws.proofs.Effects.{config-serves}
+use Rattle.bridge_laws.proofs.Parts.{same-missing, same-sent, same-owner, same-place, same-size}
+use Rattle.bridge_laws.proofs.Cores.{Registered, raised-core}
+use Rattle.trace.specs.Sound.{piecesIn}
+use Rattle.trace.proofs.Cases.{by-test}
+use Rattle.trace.proofs.Counts.{weight, weighs, weightless}
+use Rattle.trace.proofs.Settling.{TagFits, SlotFits, FineTo, rowPieces, pieces-row, pieces-not, state-below, state-config, owner-open, owner-most, tag-below}
+use Rattle.trace.proofs.Acting.{Steady, tag-kept, acts-fine, count-at, pieces-there}
 
-abbrev pub Marked : Bridge → ℕ → Type 0
-Marked b k = (getD (b .fault) k 0 ≡ 4096) ⊎ (getD (b .cause) k 0 ≢ 0)
+-- ---- the row of a slot
 
--- closing leaves the failure as it is
-failure-by : (z : Bool) (k : ℕ) (x : Bridge) (st : List ℕ) → Marked x k
-    → Marked (cond z (finished k (held x st)) (held (setPieces k (getD (x .pieces) k 0 - 1) x) st) .bridge) k
-unfolding finished
-failure-by true k x st m = m
-failure-by false k x st m = m
+-- one open piece fewer
+record Fewer (s r : Slot) : Type 0 where
+  size : r .size ≡ s .size
+  fits : SlotFits r
+  pieces : rowPieces r + 1 ≡ rowPieces s
 
-pub closed-marked : (k : ℕ) (x : Bridge) (st : List ℕ) → Marked x k → Marked (pieceClosed k (held x st) .bridge) k
-unfolding pieceClosed
-closed-marked k x st m = failure-by (leb (getD (x .pieces) k 0) 1) k x st m
+closed-fewer : (s : Slot) → s .state ≡ 1 → SlotFits s → Fewer s (closedSlot s)
+closed-fewer s e w =
+    by-test (Fewer s) (leb (s .pieces) 1)
+    (λ f. record {
+      size = refl;
+      fits = record { alive = λ z. absurd (omega arith); fits = λ z. w .fits (λ y. omega arith); marked = λ z. absurd (omega arith) };
+      pieces = rw e (omega (arith, leb-true (s .pieces) 1 f, w .alive e));
+    })
+    (λ f. record {
+      size = refl;
+      fits = record { alive = λ z. omega (arith, leb-false (s .pieces) 1 f); fits = w .fits; marked = w .marked };
+      pieces = rw e (omega (arith, leb-false (s .pieces) 1 f));
+    })
 
--- an open tag of slot k
-pub record OpenFor (b : Bridge) (t k : ℕ) : Type 0 where
-  pub missing : Open b t
-  pub owner : ownerOf b t ≡ k
-  pub slot : k < 8
+-- the response of a cause is not OKAY
+pub cause-not-okay : (why : Cause) → causeResponse why ≢ 0
+cause-not-okay UnsupportedRequest e = absurd (omega arith)
+cause-not-okay RequestRetry e = absurd (omega arith)
+cause-not-okay CompleterAbort e = absurd (omega arith)
+cause-not-okay Poison e = absurd (omega arith)
+cause-not-okay Timeout e = absurd (omega arith)
 
-module _ (t k : ℕ) (b x : Bridge) (v : Fine b) (p : Touched t k b x) (o : OpenFor b t k) where
-  slot-open : getD (b .state) k 0 ≡ 1
-  slot-open = sym (state-below b k (o .slot)) ∙ subst (λ i. stateOf b i ≡ 1) (o .owner) (owner-open b t v (o .missing))
+-- a failure is noted
+module _ (place : ℕ) (why : Cause) (s : Slot) (w : SlotFits s) where
+  abbrev noted : Slot
+  noted = record { state = s .state; size = s .size; pieces = s .pieces; fault = place; cause = causeResponse why }
 
-  pub was-marked : Marked b k
-  was-marked = v .marked k (o .slot) slot-open
+  noted-fits : SlotFits noted
+  noted-fits = record { alive = w .alive; fits = w .fits; marked = λ e. inr (cause-not-okay why) }
 
-  pub settles : (st : List ℕ) → missingOf x t ≡ 0 → Closes t k b (pieceClosed k (held x st) .bridge)
-  settles st e = closes t k b x st p e (omega (arith, o .slot, v .sizes .pieces)) (omega (arith, o .slot, v .sizes .state)) slot-open
+  failed-fits : SlotFits (faultedSlot place (causeResponse why) s)
+  failed-fits = by-test SlotFits (ltb place (s .fault)) (λ e. noted-fits) (λ e. w)
 
-  pub settle-fine : (st : List ℕ) → missingOf x t ≡ 0 → Marked x k → Fine (pieceClosed k (held x st) .bridge)
-  settle-fine st e m =
-      closes-fine t k b (pieceClosed k (held x st) .bridge) v (settles st e) (o .missing) (o .owner) (o .slot) (closed-marked k x st m)
+  failed-fewer : s .state ≡ 1 → Fewer s (closedSlot (faultedSlot place (causeResponse why) s))
+  failed-fewer e =
+      let p = closed-fewer noted e noted-fits in
+      by-test (λ r. Fewer s (closedSlot r)) (ltb place (s .fault)) (λ z. record { size = p .size; fits = p .fits; pieces = p .pieces }) (λ z. closed-fewer s e w)
 
-  -- some bytes come, and not the last
-  part-named : Open x t → (j u : ℕ) → Dec (u ≡ t) → named x j u ≡ named b j u
-  part-named n j u (yes e) = go (ℕ-discrete (ownerOf b t) j)
-    where
-      own : ownerOf x t ≡ ownerOf b t
-      own = ap (λ (l : List ℕ). getD l t 0) (p .owner)
+-- ---- the core
 
-      go : Dec (ownerOf b t ≡ j) → named x j u ≡ named b j u
-      go (yes f) = ap (named x j) e ∙ is-named x j t n (own ∙ f) ∙ sym (is-named b j t (o .missing) f) ∙ ap (named b j) (sym e)
-      go (no f) = ap (named x j) e ∙ other-unnamed x j t (λ g. f (sym own ∙ g)) ∙ sym (other-unnamed b j t f) ∙ ap (named b j) (sym e)
-  part-named n j u (no e) = named-same b x j u (p .missing u e) (ap (λ (l : List ℕ). getD l u 0) (p .owner))
+untouched : (c : Core) → Registered c c
+untouched c = record { same = refl; free = refl; ticks = refl; config = refl; link = refl }
 
-  part-tag : Open x t → placeOf x t + missingOf x t ≡ placeOf b t + missingOf b t → isSet (x .core .free) t ≡ isSet (b .core .free) t
-      → (u : ℕ) → Open x u → Dec (u ≡ t) → TagFits x u
-  part-tag n s f u h (yes e) =
-      let w = v .tags t (o .missing) in
-      subst (λ i. TagFits x i) (sym e)
-      (record {
-        used = f ∙ w .used;
-        whole = rw s (w .whole);
-        inside = rw (s, p .owner, p .size) (w .inside);
-        past = rw (p .sent) (w .past);
-      })
-  part-tag n s f u h (no e) =
-      let w = v .tags u (λ g. h (p .missing u e ∙ g)) in
-      record {
-        used = p .free u e ∙ w .used;
-        whole = rw (p .missing u e, p .place u e) (w .whole);
-        inside = rw (p .missing u e, p .place u e, p .owner, p .size) (w .inside);
-        past = rw (p .sent) (w .past);
-      }
+-- registers differ, and perhaps the configuration slot
+steady : (t : ℕ) (w : ConfigSlot) {c d : Core} → Registered (withConfig w c) d → Steady t c d
+steady t w r = record { ticks = r .ticks; link = r .link; free = λ u n. ap (λ z. isSet z u) (r .free) }
 
-  part-marked : Marked x k → (j : ℕ) → j < 8 → getD (b .state) j 0 ≡ 1 → Dec (j ≡ k) → Marked x j
-  part-marked m j l s (yes e) = rw e m
-  part-marked m j l s (no e) = rw (p .fault j e, p .cause j e) (v .marked j l s)
+-- and tag t is free
+steady-freed : (t : ℕ) (w : ConfigSlot) {c d : Core} → t < tagCount → Registered (withConfig w c) d → Steady t c (freedCore t d)
+steady-freed t w {d = d} h r = record { ticks = r .ticks; link = r .link; free = λ u n. set-sets tagCount (d .free) t h .others u n ∙ ap (λ z. isSet z u) (r .free) }
 
-  pub part-fine : Open x t → placeOf x t + missingOf x t ≡ placeOf b t + missingOf b t → isSet (x .core .free) t ≡ isSet (b .core .free) t
-      → Marked x k → Fine x
-  part-fine n s f m = record {
-    right = ap settingsNumber (p .settings) ∙ v .right;
-    sizes = record {
-      missing = p .missing-size ∙ v .sizes .missing;
-      sent = ap length (p .sent) ∙ v .sizes .sent;
-      owner = ap length (p .owner) ∙ v .sizes .owner;
-      place = p .place-size ∙ v .sizes .place;
-      next = p .next-size ∙ v .sizes .next;
-      kind = ap length (p .kind) ∙ v .sizes .kind;
-      state = ap length (p .state) ∙ v .sizes .state;
-      size = ap length (p .size) ∙ v .sizes .size;
-      pieces = ap length (p .pieces) ∙ v .sizes .pieces;
-      fault = p .fault-size ∙ v .sizes .fault;
-      cause = p .cause-size ∙ v .sizes .cause;
-    };
-    clock = rw (p .ticks) (v .clock);
-    tags = λ u h. part-tag n s f u h (ℕ-discrete u t);
-    count = λ j.
-        open-same b x j tagCount (λ u. part-named n j u (ℕ-discrete u t))
-        ∙ v .count j
-        ∙ sym (pieces-same b x j (state-same b x j (λ g. ap (λ z. z .state) (p .config)) (λ g. ap (λ (l : List ℕ). getD l j 0) (p .state))) (ap (λ (l : List ℕ). getD l j 0) (p .pieces)));
-    alive = λ j l e. rw (p .pieces) (v .alive j l (ap (λ (l : List ℕ). getD l j 0) (sym (p .state)) ∙ e));
-    fits = λ j l e. rw (p .size) (v .fits j l (λ g. e (ap (λ (l : List ℕ). getD l j 0) (p .state) ∙ g)));
-    marked = λ j l e. part-marked m j l (ap (λ (l : List ℕ). getD l j 0) (sym (p .state)) ∙ e) (ℕ-discrete j k);
-    down = λ e. absurd (o .missing (v .down (sym (p .link) ∙ e) .1 t));
-  }
+-- the configuration access is finished
+pub answer-done : (c : ConfigSlot) (payload : List ℕ) (v : Verdict) → isUnexpected v ≡ false → configAnswer c payload v .state ≡ 2
+unfolding configAnswer
+answer-done c payload Unexpected e = never e
+answer-done c payload (Good n) e = refl
+answer-done c payload (Poisoned n) e = refl
+answer-done c payload (Failed UnsupportedRequest) e = by-test (λ (r : ConfigSlot). r .state ≡ 2) (c .write) (λ z. refl) (λ z. refl)
+answer-done c payload (Failed RequestRetry) e = refl
+answer-done c payload (Failed CompleterAbort) e = refl
+answer-done c payload (Failed Poison) e = refl
+answer-done c payload (Failed Timeout) e = refl
 
--- ---- what is touched in each case
+-- ---- an open tag t of slot k
 
-pub shut-gone : (t : ℕ) (b : Bridge) → t < length (b .missing) → missingOf (shut t b) t ≡ 0
-unfolding shut
-shut-gone t b l = getD-set-same (b .missing) t 0 0 l
+module _ {over : ℕ → ℕ} (h : Held) (t k : ℕ) (v : FineTo over (h .bridge)) (m : Open (h .bridge) t) (o : ownerOf (h .bridge) t ≡ k) where
+  abbrev b : Bridge
+  b = h .bridge
 
-pub freed-gone : (t : ℕ) (b : Bridge) → t < length (b .missing) → missingOf (freed t (shut t b)) t ≡ 0
-unfolding freed
-freed-gone t b l = shut-gone t b l
-
-pub closed-touched : (t k : ℕ) (b x : Bridge) → t < tagCount → Touched t k b x → Touched t k b (freed t (shut t x))
-closed-touched t k b x l p = touched-then p (touched-then (shut-touched t k x) (freed-touched t k (shut t x) l))
-
-pub counted-failure : (t n k : ℕ) (b : Bridge) → Marked b k → Marked (counted t n b) k
-unfolding counted
-counted-failure t n k b m = m
-
-pub freed-failure : (t k : ℕ) (b : Bridge) → Marked b k → Marked (freed t (shut t b)) k
-unfolding freed shut
-freed-failure t k b m = m
-
-pub shut-failure : (t k : ℕ) (b : Bridge) → Marked b k → Marked (shut t b) k
-unfolding shut
-shut-failure t k b m = m
-
-record Counts (t n : ℕ) (b x : Bridge) : Type 0 where
-  missing : missingOf x t ≡ missingOf b t - n
-  place : placeOf x t ≡ placeOf b t + n
-  free : x .core .free ≡ b .core .free
-
-counted-counts : (t n : ℕ) (b : Bridge) → t < length (b .missing) → t < length (b .place) → Counts t n b (counted t n b)
-unfolding counted
-counted-counts t n b l m = record
-    { missing = getD-set-same (b .missing) t (missingOf b t - n) 0 l; place = getD-set-same (b .place) t (placeOf b t + n) 0 m; free = refl }
-
--- ---- which tags are open
-
--- the open tags of x were open in b, and were sent at the same ticks
-pub record Less (b x : Bridge) : Type 0 where
-  pub settings : x .settings ≡ b .settings
-  pub ticks : x .core .ticks ≡ b .core .ticks
-  pub sent : x .sent ≡ b .sent
-  pub was : (u : ℕ) → Open x u → Open b u
-
-was-by : (t u : ℕ) (b x : Bridge) → Open b t → Elsewhere t (b .missing) (x .missing) → Open x u → Dec (u ≡ t) → Open b u
-was-by t u b x m e n (yes f) g = m (ap (missingOf b) (sym f) ∙ g)
-was-by t u b x m e n (no f) g = n (e u f ∙ g)
-
-pub touched-less : (t k : ℕ) (b x : Bridge) → Open b t → Touched t k b x → Less b x
-touched-less t k b x m p = record { settings = p .settings; ticks = p .ticks; sent = p .sent; was = λ u n. was-by t u b x m (p .missing) n (ℕ-discrete u t) }
-
-pub closes-less : (t k : ℕ) (b x : Bridge) → Open b t → Closes t k b x → Less b x
-closes-less t k b x m p = record { settings = p .settings; ticks = p .ticks; sent = p .sent; was = λ u n. was-by t u b x m (p .missing) n (ℕ-discrete u t) }
-
--- ---- the cases
-
-module _ (h : Held) (t k skip : ℕ) (payload : List ℕ) (v : Fine (h .bridge)) (o : OpenFor (h .bridge) t k) where
   low : t < tagCount
-  low = tag-below (h .bridge) t (v .sizes) (o .missing)
+  low = tag-below b t (v .sizes) m
 
-  low-missing : t < length (h .bridge .missing)
-  low-missing = omega (arith, low, v .sizes .missing)
+  waits : stateOf b k ≡ 1
+  waits = subst (λ i. stateOf b i ≡ 1) o (owner-open b t v m)
 
-  low-place : t < length (h .bridge .place)
-  low-place = omega (arith, low, v .sizes .place)
+  module _ {f : Tag → Tag} {g : Slot → Slot} {c : Core → Core} {x : Bridge} (a : Acts t k f g c b x) (s : Steady t (b .core) (c (b .core)))
+      (e : k ≢ 8 → c (b .core) .config ≡ b .core .config) (w : f (tagAt b t) .owner ≡ ownerOf b t) (z : g (slotAt b k) .size ≡ slotAt b k .size)
+      (q : k < 8 → SlotFits (g (slotAt b k))) where
+    -- it stays open, or is closed
+    served : (Open x t → TagFits (over t) x t) → piecesIn x k + weight b k t ≡ piecesIn b k + weight x k t → FineTo over x
+    served i r =
+        acts-fine a v
+        (record {
+          low = low;
+          core = subst (Steady t (b .core)) (sym (a .core)) s;
+          tag = i;
+          slot = λ l. subst SlotFits (sym (a .slot)) (q l);
+          size = λ u p y. same-size (a .slot) ∙ z;
+          count = count-at (piecesIn b) (piecesIn x) t k b x (λ y. o) (λ y. same-owner (a .tag) ∙ w ∙ o)
+              (pieces-there a (λ d. ap (λ y. y .config) (a .core) ∙ e d)) r;
+          down = λ d. absurd (m (v .down d .1 t));
+        })
 
-  -- the place of a failure is one of the slot's
-  pub place-inside : placeOf (h .bridge) t < 4096
-  place-inside =
-      let w = v .tags t (o .missing) .whole in
-      let n = o .missing in
-      omega arith
+    closed : f (tagAt b t) .missing ≡ 0 → piecesIn x k + 1 ≡ piecesIn b k → FineTo over x
+    closed i r =
+        let n : missingOf x t ≡ 0 = same-missing (a .tag) ∙ i in
+        served (λ y. absurd (y n)) (omega (arith, weighs b k t m o, weightless x k t n, r))
 
-  pub failure-marks : (why : Cause) → Marked (failed k (placeOf (h .bridge) t) why (h .bridge)) k
-  failure-marks why =
-      inr
-      (failed-marks k (placeOf (h .bridge) t) why (h .bridge) (omega (arith, o .slot, v .sizes .cause)) place-inside
-      (was-marked t k (h .bridge) (h .bridge) v (touched-none t k (h .bridge)) o))
+  -- ---- of a memory read
 
-  pub failure-touched : (why : Cause) → Touched t k (h .bridge) (failed k (placeOf (h .bridge) t) why (h .bridge))
-  failure-touched why = failed-touched t k (placeOf (h .bridge) t) why (h .bridge)
+  module _ (l : k < 8) where
+    abbrev row : Slot
+    row = slotAt b k
 
-  -- a bridge in which a failure is noted has the same tags
-  size-after : (why : Cause) → t < length (failed k (placeOf (h .bridge) t) why (h .bridge) .missing)
-  size-after why = omega (arith, low-missing, failure-touched why .missing-size)
+    fit : SlotFits row
+    fit = v .slots k l
 
-  part : (x : Bridge) → Touched t k (h .bridge) x → Marked x k → missingOf x t ≡ missingOf (h .bridge) t → placeOf x t ≡ placeOf (h .bridge) t
-      → x .core .free ≡ h .bridge .core .free → t < length (x .missing) → t < length (x .place)
-      → (n : ℕ) → n < missingOf (h .bridge) t → Fine (counted t n x)
-  part x p m em ep ef lm lp n l =
-      let c = counted-counts t n x lm lp in
-      let nz : Open (counted t n x) t = λ e. omega (arith, c .missing, em) in
-      part-fine t k (h .bridge) (counted t n x) v (touched-then p (counted-touched t k n x)) o nz (omega (arith, c .missing, c .place, em, ep))
-      (ap (λ w. isSet w t) (c .free ∙ ef)) (counted-failure t n k x m)
+    open-slot : row .state ≡ 1
+    open-slot = sym (state-below b k l) ∙ waits
 
-  last : (x : Bridge) (st : List ℕ) → Touched t k (h .bridge) x → Marked x k → t < length (x .missing) → Fine (closed t k (held x st) .bridge)
-  last x st p m l =
-      settle-fine t k (h .bridge) (freed t (shut t x)) v (closed-touched t k (h .bridge) x low p) o st (freed-gone t x l) (freed-failure t k x m)
+    -- n bytes come, and not the last
+    part-comes : {n : ℕ} {g : Slot → Slot} {c : Core → Core} {x : Bridge} → Acts t k (countedTag n) g c b x → n < missingOf b t
+        → Registered (b .core) (c (b .core)) → g row .size ≡ row .size → SlotFits (g row) → rowPieces (g row) ≡ rowPieces row → FineTo over x
+    part-comes {x = x} a i d z q r =
+        let e = a .tag in
+        let w = v .tags t m in
+        let s : getD (x .size) (ownerOf b t) 0 ≡ getD (b .size) (ownerOf b t) 0 = rw o (same-size (a .slot) ∙ z) in
+        let sum : placeOf x t + missingOf x t ≡ placeOf b t + missingOf b t = omega (arith, same-place e, same-missing e) in
+        let n : Open x t = λ y. omega (arith, same-missing e) in
+        served a (steady t (b .core .config) d) (λ y. d .config) refl z (λ y. q)
+        (λ y. tag-kept a t (ap (λ u. u .ticks) (a .core) ∙ d .ticks) (ap (λ u. isSet (u .free) t) (a .core) ∙ ap (λ u. isSet u t) (d .free)) sum
+        (same-owner e) (same-sent e) s w)
+        (omega (arith, weighs b k t m o, weighs x k t n (same-owner e ∙ o), pieces-row b k l, pieces-row x k l, ap rowPieces (a .slot), r))
 
-  pub served-fine : {w : Verdict} {y : Held} → Served h t k skip payload w y → Fine (y .bridge)
-  served-fine (good-part n l) =
-      part (h .bridge) (touched-none t k (h .bridge)) (was-marked t k (h .bridge) (h .bridge) v (touched-none t k (h .bridge)) o) refl refl refl low-missing low-place n l
-  served-fine (good-last n l) =
-      last (counted t n (h .bridge)) (paste (h .store) (4096 * k + placeOf (h .bridge) t) (usefulBytes skip n payload) n) (counted-touched t k n (h .bridge))
-      (counted-failure t n k (h .bridge) (was-marked t k (h .bridge) (h .bridge) v (touched-none t k (h .bridge)) o))
-      (omega (arith, low-missing, counted-touched t k n (h .bridge) .missing-size))
-  served-fine (poison-part n l) =
-      let f = failed-alone k (placeOf (h .bridge) t) Poison (h .bridge) in
-      part (failed k (placeOf (h .bridge) t) Poison (h .bridge)) (failure-touched Poison) (failure-marks Poison) (ap (λ (l : List ℕ). getD l t 0) (f .missing))
-      (ap (λ (l : List ℕ). getD l t 0) (f .place)) (f .free) (size-after Poison) (omega (arith, low-place, failure-touched Poison .place-size)) n l
-  served-fine (poison-last n l) =
-      let x = failed k (placeOf (h .bridge) t) Poison (h .bridge) in
-      last (counted t n x) (h .store) (touched-then (failure-touched Poison) (counted-touched t k n x)) (counted-failure t n k x (failure-marks Poison))
-      (omega (arith, size-after Poison, counted-touched t k n x .missing-size))
-  served-fine (failing why) =
-      last (failed k (placeOf (h .bridge) t) why (h .bridge)) (h .store) (failure-touched why) (failure-marks why) (size-after why)
+    -- the last come, or the piece fails: its tag is free, or rests
+    piece-closes : {f : Tag → Tag} {g : Slot → Slot} {c : Core → Core} {x : Bridge} → Acts t k f g c b x → Steady t (b .core) (c (b .core))
+        → c (b .core) .config ≡ b .core .config → f (tagAt b t) .owner ≡ ownerOf b t → f (tagAt b t) .missing ≡ 0 → Fewer row (g row) → FineTo over x
+    piece-closes {x = x} a s e w g r =
+        closed a s (λ d. e) w (r .size) (λ d. r .fits) g (omega (arith, pieces-row b k l, pieces-row x k l, ap rowPieces (a .slot), r .pieces))
 
-  -- every open tag was open before, and was sent then
-  last-less : (x : Bridge) (st : List ℕ) → Touched t k (h .bridge) x → t < length (x .missing) → Less (h .bridge) (closed t k (held x st) .bridge)
-  last-less x st p l =
-      closes-less t k (h .bridge) (closed t k (held x st) .bridge) (o .missing)
-      (settles t k (h .bridge) (freed t (shut t x)) v (closed-touched t k (h .bridge) x low p) o st (freed-gone t x l))
+    fails-as : (why : Cause) → Fewer row (closedSlot (faultedSlot (placeOf b t) (causeResponse why) row))
+    fails-as why = failed-fewer (placeOf b t) why row fit open-slot
 
-  pub served-less : {w : Verdict} {y : Held} → Served h t k skip payload w y → Less (h .bridge) (y .bridge)
-  served-less (good-part n l) = touched-less t k (h .bridge) (counted t n (h .bridge)) (o .missing) (counted-touched t k n (h .bridge))
-  served-less (good-last n l) =
-      last-less (counted t n (h .bridge)) (paste (h .store) (4096 * k + placeOf (h .bridge) t) (usefulBytes skip n payload) n) (counted-touched t k n (h .bridge))
-      (omega (arith, low-missing, counted-touched t k n (h .bridge) .missing-size))
-  served-less (poison-part n l) =
-      let x = failed k (placeOf (h .bridge) t) Poison (h .bridge) in
-      touched-less t k (h .bridge) (counted t n x) (o .missing) (touched-then (failure-touched Poison) (counted-touched t k n x))
-  served-less (poison-last n l) =
-      let x = failed k (placeOf (h .bridge) t) Poison (h .bridge) in
-      last-less (counted t n x) (h .store) (touched-then (failure-touched Poison) (counted-touched t k n x)) (omega (arith, size-after Poison, counted-touched t k n x .missing-size))
-  served-less (failing why) = last-less (failed k (placeOf (h .bridge) t) why (h .bridge)) (h .store) (failure-touched why) (size-after why)
+    frees : {d : Core} → Registered (b .core) d → Steady t (b .core) (freedCore t d)
+    frees r = steady-freed t (b .core .config) low r
 
-  -- a timeout
-  pub late-touched : Touched t k (h .bridge) (shut t (failed k (placeOf (h .bridge) t) Timeout (h .bridge)))
-  late-touched = touched-then (failure-touched Timeout) (shut-touched t k (failed k (placeOf (h .bridge) t) Timeout (h .bridge)))
+    pub memory-fine : {x : Held} {skip : ℕ} {payload : List ℕ} {w : Verdict} → Serves t k skip payload h x w → FineTo over (x .bridge)
+    memory-fine (good-part n i a s) = part-comes a i (untouched (b .core)) refl fit refl
+    memory-fine (good-last n i a s) = piece-closes a (frees (untouched (b .core))) refl refl refl (closed-fewer row open-slot fit)
+    memory-fine (poison-part n i a s) =
+        let z = ltb (placeOf b t) (row .fault) in
+        part-comes a i (raised-core (causeBit Poison) (b .core)) (by-test (λ (r : Slot). r .size ≡ row .size) z (λ y. refl) (λ y. refl))
+        (failed-fits (placeOf b t) Poison row fit) (by-test (λ (r : Slot). rowPieces r ≡ rowPieces row) z (λ y. refl) (λ y. refl))
+    memory-fine (poison-last n i a s) =
+        let r = raised-core (causeBit Poison) (b .core) in
+        piece-closes a (frees r) (r .config) refl refl (fails-as Poison)
+    memory-fine (fails why a s) =
+        let r = raised-core (causeBit why) (b .core) in
+        piece-closes a (frees r) (r .config) refl refl (fails-as why)
 
-  pub late-fine : Fine (pieceClosed k (held (shut t (failed k (placeOf (h .bridge) t) Timeout (h .bridge))) (h .store)) .bridge)
-  late-fine =
-      let x = failed k (placeOf (h .bridge) t) Timeout (h .bridge) in
-      settle-fine t k (h .bridge) (shut t x) v late-touched o (h .store) (shut-gone t x (size-after Timeout)) (shut-failure t k x (failure-marks Timeout))
+  -- ---- of the configuration access
+
+  module _ (l : 8 ≤ k) where
+    config-closes : {c : Core → Core} {x : Bridge} → Acts t k shutTag same c b x → Steady t (b .core) (c (b .core)) → c (b .core) .config .state ≡ 2 → FineTo over x
+    config-closes {x = x} a s d =
+        let e : k ≡ 8 = omega (arith, owner-most b t v m) in
+        let z : stateOf x 8 ≡ 2 = state-config x ∙ ap (λ y. y .config .state) (a .core) ∙ d in
+        let w : stateOf b 8 ≡ 1 = rw e at waits in
+        let p : piecesIn b 8 ≡ 1 = rw w in
+        closed a s (λ n. absurd (n e)) refl refl (λ i. absurd (omega arith)) refl (rw e (omega (arith, pieces-not x 8 (λ y. omega arith), p)))
+
+    pub config-fine : (payload : List ℕ) (w : Verdict) → isUnexpected w ≡ false → FineTo over (configCompleted b t payload w)
+    config-fine payload w u =
+        let c = configAnswer (b .core .config) payload w in
+        config-closes (config-serves b t k payload w (v .sizes) low) (steady-freed t c low (untouched (withConfig c (b .core)))) (answer-done (b .core .config) payload w u)
+
+-- ---- a timeout
+
+pub expired-fine : {over : ℕ → ℕ} {h x : Held} {t : ℕ} → FineTo over (h .bridge) → Open (h .bridge) t → Expires t h x → FineTo over (x .bridge)
+expired-fine {h = h} {t = t} v m (memory l a s) =
+    let c = h .bridge .core in
+    let k = ownerOf (h .bridge) t in
+    let r = raised-core (causeBit Timeout) c in
+    piece-closes h t k v m refl l a (steady t (c .config) r) (r .config) refl refl (fails-as h t k v m refl l Timeout)
+expired-fine {h = h} {t = t} v m (config l a s) =
+    let c = h .bridge .core in
+    let k = ownerOf (h .bridge) t in
+    let w = configDone (c .config) slverr 0 in
+    let r = raised-core 8 (withConfig w c) in
+    config-closes h t k v m refl l (a k) (steady t w r) (ap (λ z. z .state) (r .config))

@@ -14,6 +14,7 @@ use Rattle.machine.specs.State.{tagCount, slotCount, missingOf, ownerOf, placeO
 use Rattle.machine.specs.Completions.{storeSize, Held}
 use Rattle.machine.specs.Ticks.{ageOf}
 use Rattle.machine.specs.Take.{stateOf}
+pub use Rattle.bridge_laws.specs.MemoryLaws.{Tables}
 use Rattle.trace.specs.Events.{Event, run, start}
 
 -- tag t is open for slot k
@@ -29,19 +30,9 @@ openIn b k (suc n) = openIn b k n + cond (named b k n) 1 0
 abbrev pub piecesIn : Bridge → ℕ → ℕ
 piecesIn b k = cond (eqb (stateOf b k) 1) (cond (ltb k 8) (getD (b .pieces) k 0) 1) 0
 
--- the columns have an entry for each tag and each slot
-pub record Sizes (b : Bridge) : Type 0 where
-  pub missing : length (b .missing) ≡ tagCount
-  pub sent : length (b .sent) ≡ tagCount
-  pub owner : length (b .owner) ≡ tagCount
-  pub place : length (b .place) ≡ tagCount
-  pub next : length (b .next) ≡ tagCount
-  pub kind : length (b .kind) ≡ tagCount
-  pub state : length (b .state) ≡ slotCount
-  pub size : length (b .size) ≡ slotCount
-  pub pieces : length (b .pieces) ≡ slotCount
-  pub fault : length (b .fault) ≡ slotCount
-  pub cause : length (b .cause) ≡ slotCount
+-- the columns have an entry for each tag and each slot: `Tables`, by another name
+abbrev pub Sizes : Bridge → Type 0
+Sizes b = Tables b
 
 -- an open tag is not free, its missing bytes lie in its slot's burst, and it is not yet as old as the time limit
 pub record OpenTag (b : Bridge) (t : ℕ) : Type 0 where
@@ -54,7 +45,7 @@ pub record OpenTag (b : Bridge) (t : ℕ) : Type 0 where
 pub record Sound (h : Held) : Type 0 where
   pub room : storeSize ≤ length (h .store)
   pub right : settingsNumber (h .bridge .settings) ≡ 0
-  pub sizes : Sizes (h .bridge)
+  pub sizes : Tables (h .bridge)
   pub clock : h .bridge .core .ticks < 2 ^ 32
   pub tags : (t : ℕ) → Open (h .bridge) t → OpenTag (h .bridge) t
   -- a slot's open pieces are the tags that are open for it
