@@ -7,10 +7,10 @@ use Rattle.trace.specs.Events.{Event, seen}
 use Rattle.trace.specs.Claims.{Demand3}
 use Rattle.trace.specs.Example.{tenBytes}
 use Rattle.trace.specs.Applied.{there, old, new}
-use Rattle.trace.proofs.Bytes as first
-use Rattle.trace.proofs.Deadline as second
-use Rattle.trace.proofs.Okay as second-okay
-use Rattle.trace.proofs.Alike as third
+use Rattle.trace.proofs.Bytes.Bytes as first
+use Rattle.trace.proofs.Deadline.Deadline as second
+use Rattle.trace.proofs.Okay.Okay as second-okay
+use Rattle.trace.proofs.Alike.Alike as third
 use Rattle.trace.proofs.Applied.{applied}
 
 pub demand3 : Demand3

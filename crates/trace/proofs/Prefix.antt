@@ -7,7 +7,7 @@ use lib.Dec.{eqb}
 use Rattle.machine.specs.Completions.{Held, completionOf}
 use Rattle.trace.specs.Events.{Event, call, completion, tick, link, step}
 use Rattle.trace.specs.FarSide.{Wire, wireAfter, Some, none, came, lost, readable, paired, Along, FarFirst}
-use Rattle.trace.proofs.Turn.{some-then}
+use Rattle.trace.proofs.Tags.Turn.{some-then}
 
 some-nothing : {A : Type 0} (m : List A) → Some [] m
 some-nothing [] = none

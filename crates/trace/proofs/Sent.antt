@@ -23,8 +23,8 @@ use Rattle.trace.specs.Events.{Event, step, run, start}
 use Rattle.trace.specs.FarSide.{askOf, asked}
 use Rattle.trace.specs.Sound.{Sound}
 use Rattle.trace.specs.Sent.{headerOf, wordPacket, isWrite, AskedIsSent}
-use Rattle.trace.proofs.Sound.{run-sound}
-use Rattle.trace.proofs.Opened.{turns, wordAsk}
+use Rattle.trace.proofs.Soundness.Sound.{run-sound}
+use Rattle.trace.proofs.Tags.Opened.{turns, wordAsk}
 
 flat-map : {A B C : Type 0} (g : B → List C) (f : A → B) (l : List A) → flatMap g (map f l) ≡ flatMap (λ x. g (f x)) l
 unfolding flatMap
