@@ -1,6 +1,6 @@
 -- A burst behind its window: its bytes, and the requests of its pieces.
 use mathlib.Core.Path.{_≡_, refl, sym, ap, _∙_}
-use mathlib.Core.Bool.{Bool, true, not}
+use mathlib.Core.Bool.{Bool, true}
 use mathlib.Core.List.{List, [], _∷_, _++_, map, flatMap}
 use Prim.Native.Nat.{ℕ, zero, suc, _+_, _-_, _*_, _/_, _%_, _^_, _≤_, _<_}
 use native.Mathlib.Nat.{mod-lt}
@@ -11,7 +11,6 @@ use lib.ListN.{length, getD}
 use lib.Dec.{ltb, leb, eqb}
 use Rattle.common.proofs.Tests.{and-right, and-left}
 use Rattle.common.proofs.Tests as tests
-use Rattle.tlp.specs.declared.request.Request.{Request}
 use Rattle.tlp.specs.Request.{validEnables, validTarget, validRequest}
 use Rattle.tlp.specs.Laws.{ValidRequest}
 use Rattle.address.specs.declared.Settings.{Settings}
@@ -19,18 +18,18 @@ use Rattle.address.specs.declared.Windows.{Windows}
 use Rattle.address.specs.declared.Found.{Found}
 use Rattle.address.specs.declared.Found.the-variants as found
 use Rattle.address.specs.Windows.{axi, windowOf, foundNumber, holds, translated, holdsAt}
-use Rattle.address.specs.Settings.{settingsRight, settingsNumber, windowsRight, between, powerOfTwo}
+use Rattle.address.specs.Settings.{settingsRight, settingsNumber, windowsRight}
 use Rattle.address.specs.Laws.{Limit}
 use Rattle.address.proofs.Laws as address
 use Rattle.burst.specs.declared.Burst.{Burst}
 use Rattle.burst.specs.declared.Piece.{Piece}
 use Rattle.burst.specs.Bursts.{lengthOf}
-use Rattle.burst.specs.Pieces.{pieceCount, pieceAt, pieces, addresses, bytesOf}
+use Rattle.burst.specs.Pieces.{Within, pieceCount, pieceAt, pieces, addresses, bytesOf}
 use Rattle.burst.specs.Words.{wordAddress, wordCount, firstEnables, lastEnables}
 use Rattle.burst.proofs.Pieces.{accepted-covers, burst-in-window}
 use Rattle.burst.proofs.Tiling.{pieces-tile, piece-not-empty, piece-within}
 use Rattle.burst.proofs.Words.{piece-words, limit-words, enables-right, same-words}
-use Rattle.machine.specs.Memory.{windowFor, indexOf, pcieOf, memoryRequest, pieceRequest, packet}
+use Rattle.machine.specs.Memory.{windowFor, indexOf, pcieOf, memoryRequest, pieceRequest}
 use Rattle.bridge_laws.specs.MemoryLaws.{Routed, Covered, RowBehind, LowBitsBehind, bytesBehind, TilesBehind, PieceRequestValid, PacketWhole}
 use Rattle.packets.proofs.Packets.{packet-valid}
 
@@ -40,18 +39,15 @@ map-join f (a ∷ x) y = ap (_∷_ (f a)) (map-join f x y)
 
 -- ---- numbers of a header
 
-enables-by : (m l f : ℕ) → 0 < m → (m ≡ 1 → l ≡ 0) → (1 < m → 0 < l) → 0 < f → Dec (1 < m) → validEnables m l f ≡ true
-enables-by m l f h one more g (yes y) =
+enables : (m l f : ℕ) → 0 < m → (m ≡ 1 → l ≡ 0) → (1 < m → 0 < l) → 0 < f → Dec (1 < m) → validEnables m l f ≡ true
+enables m l f h one more g (yes y) =
     let a : m ≡ 1 → ⊥ = λ e. omega arith in
     let b : l ≡ 0 → ⊥ = λ e. omega (arith, more y) in
     let c : f ≡ 0 → ⊥ = λ e. omega arith in
     rw (ne-eqb m 1 a, lt-ltb 1 m y, ne-eqb l 0 b, ne-eqb f 0 c)
-enables-by m l f h one more g (no y) =
+enables m l f h one more g (no y) =
     let a : m ≡ 1 = omega (arith, y) in
     rw (eq-eqb m 1 a, eq-eqb l 0 (one a))
-
-enables-ok : (m l f : ℕ) → 0 < m → (m ≡ 1 → l ≡ 0) → (1 < m → 0 < l) → 0 < f → validEnables m l f ≡ true
-enables-ok m l f h one more g = enables-by m l f h one more g (decLt 1 m)
 
 words-some : (a n : ℕ) → 0 < n → 0 < wordCount a n
 unfolding wordCount
@@ -65,13 +61,7 @@ words-below a h = omega arith
 
 requester-right : (s : Settings) → settingsNumber s ≡ 0 → ltb (s .requester) (2 ^ 16) ≡ true
 unfolding settingsRight
-requester-right s e =
-    let e₁ = and-right (windowsRight (s .windows)) _ (address.accepted s e) in
-    let e₂ = and-right (between 1 8 (s .bits)) _ e₁ in
-    let e₃ = and-right (powerOfTwo 7 12 (s .reads)) _ e₂ in
-    let e₄ = and-right (powerOfTwo 7 10 (s .writes)) _ e₃ in
-    let e₅ = and-right (between 1 65535 (s .limit)) _ e₄ in
-    and-left (ltb (s .requester) (2 ^ 16)) _ e₅
+requester-right s e = let f = address.accepted s e in search (and-left, and-right)
 
 -- ---- the window
 
@@ -89,7 +79,7 @@ module _ (s : Settings) (q : Burst) (r : Routed s q) where
   right : windowsRight w ≡ true
   right = address.accepted-windows s (r .settings)
 
-  inside : (x : ℕ) → Covered q x → (i < w .count) × (holdsAt w i (axi x) ≡ true)
+  pub inside : (x : ℕ) → Covered q x → (i < w .count) × (holdsAt w i (axi x) ≡ true)
   inside x c =
       let e : windowOf (w .count) (w .base) (w .size) (axi x) ≡ found.At i = burst-in-window q (r .burst) w right x (c .0) (c .1) ∙ is-at (windowFor w q) (r .window) in
       address.found-holds w (axi x) i e
@@ -128,13 +118,18 @@ module _ (s : Settings) (q : Burst) (r : Routed s q) where
     abbrev at : ℕ → Piece
     at k = pieceAt l a n k
 
-    piece-covered : (k : ℕ) → k < pieceCount l a n → Covered q (at k .first)
-    piece-covered k h =
-        let c = limit-words l limit in
-        let v = accepted-covers q (r .burst) in
-        let e = piece-not-empty l a n k (c .0) (v .some) h in
-        let i = piece-within l a n k (c .0) h in
-        (i .starts, omega (arith, e, i .ends))
+    pub piece-inside : (k : ℕ) → k < pieceCount l a n → Within a n (at k)
+    piece-inside k h = piece-within l a n k (limit-words l limit .0) h
+
+    pub piece-some : (k : ℕ) → k < pieceCount l a n → 0 < at k .length
+    piece-some k h = piece-not-empty l a n k (limit-words l limit .0) (accepted-covers q (r .burst) .some) h
+
+    -- its bytes are the burst's, the first one too
+    pub byte-covered : (k : ℕ) → k < pieceCount l a n → (x : ℕ) → at k .first ≤ x → x < at k .first + at k .length → Covered q x
+    byte-covered k h x f g = let i = piece-inside k h in (omega arith, omega arith)
+
+    pub piece-covered : (k : ℕ) → k < pieceCount l a n → Covered q (at k .first)
+    piece-covered k h = let o = piece-some k h in byte-covered k h (at k .first) (omega arith) (omega arith)
 
     -- an address of the burst, put behind the window
     abbrev to : ℕ → ℕ
@@ -173,18 +168,17 @@ module _ (s : Settings) (q : Burst) (r : Routed s q) where
     unfolding validRequest validTarget memoryRequest wordAddress
     valid k h write tag t =
         let c = limit-words l limit in
-        let v = accepted-covers q (r .burst) in
         let x = at k .first in
         let m = at k .length in
         let y = pcieOf w q x in
-        let o = piece-not-empty l a n k (c .0) (v .some) h in
+        let o = piece-some k h in
         let d = same-words y x m (low-bits x (piece-covered k h)) in
         let p = piece-words l a n k (c .0) (c .1) in
         let e = enables-right y m o in
         let u : 0 < wordCount y m = words-some y m o in
         let g : wordCount y m ≤ 1024 = omega (arith, d .0, p, c .2) in (
           tests.holds (leb 1 (wordCount y m)) (leb (wordCount y m) 1024 ∷ ltb (s .requester) (2 ^ 16) ∷ ltb tag 256 ∷ ltb (lastEnables y m) 16 ∷ ltb (firstEnables y m) 16 ∷ validEnables (wordCount y m) (lastEnables y m) (firstEnables y m) ∷ eqb (y / 4 * 4 % 4) 0 ∷ [])
-              (le-leb _ _ u, (le-leb _ _ g, (requester-right s (r .settings), (lt-ltb _ _ t, (lt-ltb _ _ (e .last), (lt-ltb _ _ (e .first), (enables-ok (wordCount y m) (lastEnables y m) (firstEnables y m) u (e .one) (e .more) (e .some), (fours y, tt)))))))),
+              (le-leb _ _ u, (le-leb _ _ g, (requester-right s (r .settings), (lt-ltb _ _ t, (lt-ltb _ _ (e .last), (lt-ltb _ _ (e .first), (enables (wordCount y m) (lastEnables y m) (firstEnables y m) u (e .one) (e .more) (e .some) (decLt 1 (wordCount y m)), (fours y, tt)))))))),
           words-below y (below x),
         )
 

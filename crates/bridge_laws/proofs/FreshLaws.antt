@@ -1,10 +1,11 @@
 -- A fresh bridge.
-use mathlib.Core.Path.{_≡_, refl, sym}
+use mathlib.Core.Path.{_≡_, refl, sym, ap}
 use mathlib.Core.Bool.{Bool, true, false, cond}
-use Prim.Native.Nat.{ℕ, zero, suc, _-_}
+use Prim.Native.Nat.{ℕ, _<_}
 use native.Mathlib.Omega.{arith}
-use borrow.Author.Tests.{eq-eqb, eqb-true}
-use lib.ListN.{getD, replicate}
+use native.Mathlib.Decide.{decLt}
+use borrow.Author.Tests.{eq-eqb, ne-eqb, eqb-true}
+use lib.ListN.{replicate}
 use lib.Dec.{ltb, eqb}
 use Rattle.bits.specs.Bits.{bit, isSet, fromBits}
 use Rattle.tags.proofs.Tags.{all-free}
@@ -12,47 +13,33 @@ use Rattle.address.specs.declared.Settings.{Settings}
 use Rattle.address.specs.Settings.{powerAmong, eachFrom, windowRight, apart, windowsRight, settingsRight, settingsNumber, exampleSettings}
 use Rattle.ecam.specs.Registers.{some, decodeBits, isDecodeBit, fresh, shown, localRead, line}
 use Rattle.machine.specs.Bridge.{Bridge}
-use Rattle.refusals.specs.declared.Response.the-variants.{Nothing}
-use Rattle.machine.specs.State.{tagCount, refusalChange, refusal, accepted, answered, refused, freshCore, freshBridge, newBridge}
+use Rattle.machine.specs.State.{Answered, tagCount, refusalChange, refusal, accepted, refused, freshCore, freshBridge, newBridge}
 use Rattle.machine.specs.Take.{stateIn}
+use Rattle.machine.proofs.Judging.{never}
 use Rattle.bridge_laws.specs.ConfigLaws.{Fresh, NewIsFresh, NewNumber, NewKeeps, NewIsRight}
-
-no-entry : (n i : ℕ) → getD {A = ℕ} (replicate n 0) i 0 ≡ 0
-no-entry zero i = refl
-no-entry (suc n) zero = refl
-no-entry (suc n) (suc i) = no-entry n i
+use Rattle.bridge_laws.proofs.Rows.{either, zeros}
 
 none-shown : shown 0 ≡ 0
 unfolding shown fromBits bit isSet isDecodeBit some decodeBits
 none-shown = refl
 
-differ : (v : ℕ) → v ≡ 0x018 → v ≡ 0x130 → ⊥
-differ v e f = omega arith
-
 -- each local word of the fresh registers
+none : (t : Bool) (x y : ℕ) → x ≡ 0 → y ≡ 0 → cond t x y ≡ 0
+none true x y e f = e
+none false x y e f = f
+
 word-reads : (v : ℕ) → localRead fresh v ≡ cond (eqb v 0x130) 0x0000000B 0
 unfolding localRead fresh
-word-reads v = by (eqb v 0x018) (eqb v 0x130) (eqb v 0x134) (eqb v 0x138) (eqb v 0x13C) (eqb v 0x144) refl refl
+word-reads v = by (decLt v 0x130)
   where
-    by : (a b c d e f : Bool) → eqb v 0x018 ≡ a → eqb v 0x130 ≡ b
-        → cond {A = ℕ} a 0 (cond b 0x0000000B (cond c 0 (cond d (shown 0) (cond e (shown 0) (cond f 0 0))))) ≡ cond b 0x0000000B 0
-    by true true c d e f p q = absurd (differ v (eqb-true v 0x018 p) (eqb-true v 0x130 q))
-    by true false c d e f p q = refl
-    by false true c d e f p q = refl
-    by false false true d e f p q = refl
-    by false false false true e f p q = none-shown
-    by false false false false true f p q = none-shown
-    by false false false false false true p q = refl
-    by false false false false false false p q = refl
+    by : Dec (v < 0x130) → localRead fresh v ≡ cond (eqb v 0x130) 0x0000000B 0
+    by (yes l) = rw (ne-eqb v 0x130 (λ e. omega arith)) (search (none, none-shown) depth 9)
+    by (no l) = rw (ne-eqb v 0x018 (λ e. omega (arith, l))) (ap (cond (eqb v 0x130) 0x0000000B) (search (none, none-shown) depth 9))
 
 slot-free : (k : ℕ) → stateIn 0 (replicate 8 0) k ≡ 0
 unfolding stateIn
-slot-free k = by (eqb k 8) (ltb k 8)
-  where
-    by : (p q : Bool) → cond {A = ℕ} p 0 (cond q (getD (replicate 8 0) k 0) 0) ≡ 0
-    by true q = refl
-    by false true = no-entry 8 k
-    by false false = refl
+slot-free k =
+    either (λ (x : ℕ). x ≡ 0) (eqb k 8) _ _ (λ e. refl) (λ e. either (λ (x : ℕ). x ≡ 0) (ltb k 8) _ _ (λ f. zeros 8 k) (λ f. refl))
 
 line-low : line fresh ≡ false
 unfolding line fresh some decodeBits bit isSet
@@ -67,53 +54,37 @@ fresh-is s =
       line = line-low;
       ticks = refl;
       tags = all-free tagCount;
-      missing = no-entry tagCount;
+      missing = zeros tagCount;
       slots = slot-free;
     }
-
--- the bridge of any settings is a fresh one
-new-has : (P : Bridge → Type 0) → ((s : Settings) → P (freshBridge s)) → (s : Settings) → P (newBridge s .bridge)
-unfolding newBridge refused refusalChange
-new-has P h s = by (eqb (settingsNumber s) 0)
-  where
-    by : (x : Bool) → P (cond x (answered (freshBridge s) (accepted Nothing 0 0 0)) (refused 1 (freshBridge exampleSettings)) .bridge)
-    by true = h s
-    by false = h exampleSettings
-
-pub new-is-fresh : NewIsFresh
-new-is-fresh = new-has Fresh fresh-is
-
--- settings have the number 0 or 1
-number-one : (s : Settings) → eqb (settingsNumber s) 0 ≡ false → settingsNumber s ≡ 1
-unfolding settingsNumber
-number-one s e = by (settingsRight s) e
-  where
-    by : (x : Bool) → eqb (cond x 0 1) 0 ≡ false → cond {A = ℕ} x 0 1 ≡ 1
-    by true e = let z : _≡_ {A = ℕ} 0 1 = cc in absurd (omega arith)
-    by false e = refl
-
-pub new-number : NewNumber
-unfolding newBridge refused refusal accepted
-new-number s = by (eqb (settingsNumber s) 0) refl
-  where
-    by : (x : Bool) → eqb (settingsNumber s) 0 ≡ x
-        → cond x (answered (freshBridge s) (accepted Nothing 0 0 0)) (refused 1 (freshBridge exampleSettings)) .answer .number ≡ settingsNumber s
-    by true e = sym (eqb-true _ _ e)
-    by false e = sym (number-one s e)
-
-pub new-keeps : NewKeeps
-unfolding newBridge freshBridge
-new-keeps s e = rw (eq-eqb _ _ e)
 
 example-right : settingsNumber exampleSettings ≡ 0
 unfolding powerAmong eachFrom windowRight apart windowsRight settingsRight settingsNumber
 example-right = refl
 
+-- the bridge of any settings is a fresh one, of settings that keep their rules
+new-has : (P : Bridge → Type 0) → ((s : Settings) → settingsNumber s ≡ 0 → P (freshBridge s)) → (s : Settings) → P (newBridge s .bridge)
+unfolding newBridge refused refusalChange
+new-has P h s =
+    either (λ (x : Answered). P (x .bridge)) (eqb (settingsNumber s) 0) _ _ (λ e. h s (eqb-true _ _ e)) (λ e. h exampleSettings example-right)
+
+pub new-is-fresh : NewIsFresh
+new-is-fresh = new-has Fresh (λ s e. fresh-is s)
+
 pub new-is-right : NewIsRight
-unfolding newBridge refused freshBridge
-new-is-right s = by (eqb (settingsNumber s) 0) refl
-  where
-    by : (x : Bool) → eqb (settingsNumber s) 0 ≡ x
-        → settingsNumber (cond x (answered (freshBridge s) (accepted Nothing 0 0 0)) (refused 1 (freshBridge exampleSettings)) .bridge .settings) ≡ 0
-    by true e = eqb-true _ _ e
-    by false e = example-right
+unfolding freshBridge
+new-is-right = new-has (λ b. settingsNumber (b .settings) ≡ 0) (λ s e. e)
+
+-- settings have the number 0 or 1
+number-one : (s : Settings) → eqb (settingsNumber s) 0 ≡ false → settingsNumber s ≡ 1
+unfolding settingsNumber
+number-one s = either (λ (x : ℕ). eqb x 0 ≡ false → x ≡ 1) (settingsRight s) 0 1 (λ e f. never f) (λ e f. refl)
+
+pub new-number : NewNumber
+unfolding newBridge refused refusal accepted
+new-number s =
+    either (λ (x : Answered). x .answer .number ≡ settingsNumber s) (eqb (settingsNumber s) 0) _ _ (λ e. sym (eqb-true _ _ e)) (λ e. sym (number-one s e))
+
+pub new-keeps : NewKeeps
+unfolding newBridge freshBridge
+new-keeps s e = rw (eq-eqb _ _ e)

@@ -8,7 +8,6 @@ use lib.Dec.{ltb, eqb}
 use borrow.Author.Tests.{eqb-true, ltb-true, eq-eqb, lt-ltb}
 use Rattle.common.proofs.Tests.{row, holds}
 use Rattle.tlp.specs.declared.completion.Completion.{Completion}
-use Rattle.verdict.specs.declared.Verdict.{Verdict}
 use Rattle.verdict.specs.declared.Verdict.the-variants.{Unexpected, Good, Poisoned, Failed}
 use Rattle.machine.specs.Verdict.{causeOf, useful, inOrder, received, memoryVerdict}
 use Rattle.bridge_laws.specs.CompletionLaws.{IsGood, GoodExactly}

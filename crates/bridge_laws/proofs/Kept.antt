@@ -1,59 +1,43 @@
 -- What calls leave as it was.
-use mathlib.Core.Path.{_≡_, refl, sym, ap, _∙_}
-use mathlib.Core.Bool.{Bool, true, false, cond, not, _&&_}
-use mathlib.Core.List.{List}
-use Prim.Native.Nat.{ℕ, zero, suc, _+_, _≤_, _<_}
-use native.Mathlib.Omega.{arith}
+use mathlib.Core.Path.{_≡_, refl, ap, _∙_}
+use mathlib.Core.Bool.{Bool, true, false, cond}
+use mathlib.Core.Logic.{_≢_}
+use Prim.Native.Nat.{ℕ}
 use borrow.Author.Tests.{ne-eqb, eqb-true, eqb-false}
-use lib.ListN.{length, getD, set}
-use lib.Dec.{ltb, leb, eqb}
-use lib.Seq.{getD-set-other}
-use Rattle.bits.specs.Bits.{isSet}
-use Rattle.bits.proofs.Bits.{clear-clears}
-use Rattle.tags.specs.Tags.{lowest, available}
-use Rattle.tags.proofs.Tags.{lowest-is}
-use Rattle.address.specs.Windows.{foundNumber}
+use lib.ListN.{length}
+use lib.Dec.{eqb}
 use Rattle.burst.specs.declared.Burst.{Burst}
-use Rattle.burst.specs.Bursts.{burstNumber, dataNumber}
 use Rattle.refusals.specs.Table.{Change}
-use Rattle.parts.specs.declared.Pending.{Pending}
+use Rattle.parts.specs.declared.Core.{Core}
 use Rattle.parts.specs.Answers.{changed}
 use Rattle.parts.proofs.Changes.{other-keeps}
 use Rattle.machine.specs.Bridge.{Bridge}
-use Rattle.machine.specs.State.{tagCount, coreIn, raise, opened, freeSlot, refusalChange, refusal, refused}
-use Rattle.machine.specs.Memory.{windowFor, piecesOf, pieceOf, piecePending, readRefusal, claimed, readTo, readStep, readArea, writeRefusal, writeStep, writeArea}
-use Rattle.bridge_laws.specs.MemoryLaws.{ReadKeeps, AcceptedReadKeeps, RefusedRead, RefusedWrite}
-use Rattle.machine.proofs.Reading.{one-less}
+use Rattle.machine.specs.State.{coreIn, raise, freeSlot, refusalChange, refusal, refused}
+use Rattle.machine.specs.Memory.{piecesOf, readRefusal, claimed, readStep, readArea, writeRefusal, writeStep, writeArea}
 use Rattle.machine.proofs.Refusals.{read-ok}
+use Rattle.bridge_laws.specs.MemoryLaws.{ReadKeepsRows, AcceptedReadKeeps, RefusedRead, RefusedWrite}
+use Rattle.bridge_laws.proofs.Parts.{same-missing, same-sent, same-owner, same-place, same-next, same-kind, same-state, same-size, same-pieces, same-fault, same-cause}
+use Rattle.bridge_laws.proofs.Verbs.{claimed-alone}
+use Rattle.bridge_laws.proofs.Pieces.{opens-slot}
+pub use Rattle.bridge_laws.proofs.Pieces.{Opens, opens-all, tags-left}
 
 -- ---- refusals
 
 -- the rows of a memory call do not give 13
-off : (t : Bool) (n r : ℕ) → (n ≡ 13 → ⊥) → cond t n r ≡ 13 → r ≡ 13
-off true n r h e = absurd (h e)
-off false n r h e = e
+off : (t : Bool) (n r : ℕ) → n ≢ 13 → r ≢ 13 → cond t n r ≢ 13
+off true n r h g = h
+off false n r h g = g
 
-read-not-13 : (b : Bridge) (q : Burst) (room : ℕ) → readRefusal b q room ≡ 13 → ⊥
+small : (n : ℕ) → eqb n 13 ≡ false → n ≢ 13
+small n e = eqb-false n 13 e
+
+read-not-13 : (b : Bridge) (q : Burst) (room : ℕ) → readRefusal b q room ≢ 13
 unfolding readRefusal
-read-not-13 b q room e =
-    let e₁ = off (ltb room 4608) 8 _ (eqb-false 8 13 refl) e in
-    let e₂ = off (not (eqb (burstNumber q) 0)) 3 _ (eqb-false 3 13 refl) e₁ in
-    let e₃ = off (not (eqb (foundNumber (windowFor (b .settings .windows) q)) 0)) 2 _ (eqb-false 2 13 refl) e₂ in
-    let e₄ = off (not (b .core .registers .link)) 4 _ (eqb-false 4 13 refl) e₃ in
-    let e₅ = off (eqb (b .core .config .state) 1 && not (b .core .config .write)) 5 _ (eqb-false 5 13 refl) e₄ in
-    let e₆ = off (leb 8 (freeSlot b)) 6 _ (eqb-false 6 13 refl) e₅ in
-    let e₇ = off (ltb (available tagCount (b .core .free)) (piecesOf (b .settings .reads) q)) 7 _ (eqb-false 7 13 refl) e₆ in
-    eqb-false 0 13 refl e₇
+read-not-13 b q room = search (off, small) depth 12
 
-write-not-13 : (b : Bridge) (q : Burst) (len room : ℕ) → writeRefusal b q len room ≡ 13 → ⊥
+write-not-13 : (b : Bridge) (q : Burst) (len room : ℕ) → writeRefusal b q len room ≢ 13
 unfolding writeRefusal
-write-not-13 b q len room e =
-    let e₁ = off (ltb room 4608) 8 _ (eqb-false 8 13 refl) e in
-    let e₂ = off (not (eqb (burstNumber q) 0)) 3 _ (eqb-false 3 13 refl) e₁ in
-    let e₃ = off (not (eqb (foundNumber (windowFor (b .settings .windows) q)) 0)) 2 _ (eqb-false 2 13 refl) e₂ in
-    let e₄ = off (not (eqb (dataNumber q len) 0)) 15 _ (eqb-false 15 13 refl) e₃ in
-    let e₅ = off (not (b .core .registers .link)) 4 _ (eqb-false 4 13 refl) e₄ in
-    eqb-false 0 13 refl e₅
+write-not-13 b q len room = search (off, small) depth 12
 
 change-by : (x : Bool) (n : ℕ) (b : Bridge) → (n ≡ 13 → ⊥) → eqb n 3 ≡ x → coreIn (refusalChange n (b .core)) b ≡ cond x (raise 25 b) b
 unfolding refusalChange
@@ -78,135 +62,38 @@ refused-write b q bytes area h =
 
 -- ---- an accepted read
 
--- what opening pieces leaves: all but the free word and the columns at tags that were free
-pub record Opens (b c : Bridge) : Type 0 where
-  pub settings : c .settings ≡ b .settings
-  pub registers : c .core .registers ≡ b .core .registers
-  pub ticks : c .core .ticks ≡ b .core .ticks
-  pub config : c .core .config ≡ b .core .config
-  pub state : c .state ≡ b .state
-  pub size : c .size ≡ b .size
-  pub pieces : c .pieces ≡ b .pieces
-  pub fault : c .fault ≡ b .fault
-  pub cause : c .cause ≡ b .cause
-  pub free : (t : ℕ) → isSet (b .core .free) t ≡ false → isSet (c .core .free) t ≡ false
-  pub missing : (t : ℕ) → isSet (b .core .free) t ≡ false → getD (c .missing) t 0 ≡ getD (b .missing) t 0
-  pub sent : (t : ℕ) → isSet (b .core .free) t ≡ false → getD (c .sent) t 0 ≡ getD (b .sent) t 0
-  pub owner : (t : ℕ) → isSet (b .core .free) t ≡ false → getD (c .owner) t 0 ≡ getD (b .owner) t 0
-  pub place : (t : ℕ) → isSet (b .core .free) t ≡ false → getD (c .place) t 0 ≡ getD (b .place) t 0
-  pub next : (t : ℕ) → isSet (b .core .free) t ≡ false → getD (c .next) t 0 ≡ getD (b .next) t 0
-  pub kind : (t : ℕ) → isSet (b .core .free) t ≡ false → getD (c .kind) t 0 ≡ getD (b .kind) t 0
-
--- a tag that is not free is not the lowest free one
-other : (w t : ℕ) → 0 < available tagCount w → isSet w t ≡ false → t ≡ lowest tagCount w → ⊥
-other w t h e f =
-    let g : false ≡ true = sym e ∙ ap (isSet w) f ∙ lowest-is tagCount w h .tag .free in
-    let z : _≡_ {A = ℕ} 0 1 = cc in
-    omega arith
-
-opens-one : (r : Pending) (b : Bridge) → 0 < available tagCount (b .core .free) → Opens b (opened r b)
-unfolding opened
-opens-one r b h =
+pub read-keeps-rows : ReadKeepsRows
+read-keeps-rows b q room e =
+    let a = claimed-alone (freeSlot b) q b in
+    let o = opens-all (freeSlot b) q (claimed (freeSlot b) q b) (piecesOf (b .settings .reads) q) (rw (a .core) (read-ok b q room e .tags)) in
     record {
-      settings = refl;
-      registers = refl;
-      ticks = refl;
-      config = refl;
-      state = refl;
-      size = refl;
-      pieces = refl;
-      fault = refl;
-      cause = refl;
-      free = λ t e. clear-clears (b .core .free) (lowest tagCount (b .core .free)) .others t (other (b .core .free) t h e) ∙ e;
-      missing = λ t e. getD-set-other (b .missing) (lowest tagCount (b .core .free)) t (r .missing) 0 (other (b .core .free) t h e);
-      sent = λ t e. getD-set-other (b .sent) (lowest tagCount (b .core .free)) t (b .core .ticks) 0 (other (b .core .free) t h e);
-      owner = λ t e. getD-set-other (b .owner) (lowest tagCount (b .core .free)) t (r .slot) 0 (other (b .core .free) t h e);
-      place = λ t e. getD-set-other (b .place) (lowest tagCount (b .core .free)) t (r .place) 0 (other (b .core .free) t h e);
-      next = λ t e. getD-set-other (b .next) (lowest tagCount (b .core .free)) t (r .next) 0 (other (b .core .free) t h e);
-      kind = λ t e. getD-set-other (b .kind) (lowest tagCount (b .core .free)) t (r .kind) 0 (other (b .core .free) t h e);
+      settings = o .settings ∙ a .settings;
+      registers = o .registers ∙ ap (λ (c : Core). c .registers) (a .core);
+      ticks = o .ticks ∙ ap (λ (c : Core). c .ticks) (a .core);
+      config = o .config ∙ ap (λ (c : Core). c .config) (a .core);
+      slots = λ k d. opens-slot o k ∙ a .slots k d;
+      free = λ t f. o .used t (rw (a .core) f);
+      tags = λ t f. o .tags t (rw (a .core) f) ∙ a .tags t;
     }
-
-opens-then : (b c d : Bridge) → Opens b c → Opens c d → Opens b d
-opens-then b c d x y =
-    record {
-      settings = y .settings ∙ x .settings;
-      registers = y .registers ∙ x .registers;
-      ticks = y .ticks ∙ x .ticks;
-      config = y .config ∙ x .config;
-      state = y .state ∙ x .state;
-      size = y .size ∙ x .size;
-      pieces = y .pieces ∙ x .pieces;
-      fault = y .fault ∙ x .fault;
-      cause = y .cause ∙ x .cause;
-      free = λ t e. y .free t (x .free t e);
-      missing = λ t e. y .missing t (x .free t e) ∙ x .missing t e;
-      sent = λ t e. y .sent t (x .free t e) ∙ x .sent t e;
-      owner = λ t e. y .owner t (x .free t e) ∙ x .owner t e;
-      place = λ t e. y .place t (x .free t e) ∙ x .place t e;
-      next = λ t e. y .next t (x .free t e) ∙ x .next t e;
-      kind = λ t e. y .kind t (x .free t e) ∙ x .kind t e;
-    }
-
-opens-none : (b : Bridge) → Opens b b
-opens-none b =
-    record {
-      settings = refl;
-      registers = refl;
-      ticks = refl;
-      config = refl;
-      state = refl;
-      size = refl;
-      pieces = refl;
-      fault = refl;
-      cause = refl;
-      free = λ t e. e;
-      missing = λ t e. refl;
-      sent = λ t e. refl;
-      owner = λ t e. refl;
-      place = λ t e. refl;
-      next = λ t e. refl;
-      kind = λ t e. refl;
-    }
-
--- k pieces take k tags
-pub tags-left : (slot : ℕ) (q : Burst) (b : Bridge) (k : ℕ) → k ≤ available tagCount (b .core .free)
-    → available tagCount (readTo slot q b k .core .free) + k ≡ available tagCount (b .core .free)
-unfolding readTo opened
-tags-left slot q b zero h = omega arith
-tags-left slot q b (suc k) h =
-    let e = tags-left slot q b k (omega arith) in
-    let f = one-less (readTo slot q b k .core .free) (omega arith) in
-    omega (arith, e, f)
-
-pub opens-all : (slot : ℕ) (q : Burst) (b : Bridge) (k : ℕ) → k ≤ available tagCount (b .core .free) → Opens b (readTo slot q b k)
-unfolding readTo
-opens-all slot q b zero h = opens-none b
-opens-all slot q b (suc k) h =
-    let r = piecePending slot (b .settings) q (pieceOf (b .settings .reads) q k) in
-    let e = tags-left slot q b k (omega arith) in
-    opens-then b (readTo slot q b k) (opened r (readTo slot q b k)) (opens-all slot q b k (omega arith))
-    (opens-one r (readTo slot q b k) (omega arith))
 
 pub accepted-read-keeps : AcceptedReadKeeps
-unfolding claimed
 accepted-read-keeps b q room e =
-    let ok = read-ok b q room e in
-    let o = opens-all (freeSlot b) q (claimed (freeSlot b) q b) (piecesOf (b .settings .reads) q) (ok .tags) in
+    let r = read-keeps-rows b q room e in
     record {
-      settings = o .settings;
-      registers = o .registers;
-      ticks = o .ticks;
-      config = o .config;
-      state = λ k h. ap (λ (x : List ℕ). getD x k 0) (o .state) ∙ getD-set-other (b .state) (freeSlot b) k _ 0 h;
-      size = λ k h. ap (λ (x : List ℕ). getD x k 0) (o .size) ∙ getD-set-other (b .size) (freeSlot b) k _ 0 h;
-      pieces = λ k h. ap (λ (x : List ℕ). getD x k 0) (o .pieces) ∙ getD-set-other (b .pieces) (freeSlot b) k _ 0 h;
-      fault = λ k h. ap (λ (x : List ℕ). getD x k 0) (o .fault) ∙ getD-set-other (b .fault) (freeSlot b) k _ 0 h;
-      cause = λ k h. ap (λ (x : List ℕ). getD x k 0) (o .cause) ∙ getD-set-other (b .cause) (freeSlot b) k _ 0 h;
-      free = o .free;
-      missing = o .missing;
-      sent = o .sent;
-      owner = o .owner;
-      place = o .place;
-      next = o .next;
-      kind = o .kind;
+      settings = r .settings;
+      registers = r .registers;
+      ticks = r .ticks;
+      config = r .config;
+      state = λ k d. same-state (r .slots k d);
+      size = λ k d. same-size (r .slots k d);
+      pieces = λ k d. same-pieces (r .slots k d);
+      fault = λ k d. same-fault (r .slots k d);
+      cause = λ k d. same-cause (r .slots k d);
+      free = r .free;
+      missing = λ t f. same-missing (r .tags t f);
+      sent = λ t f. same-sent (r .tags t f);
+      owner = λ t f. same-owner (r .tags t f);
+      place = λ t f. same-place (r .tags t f);
+      next = λ t f. same-next (r .tags t f);
+      kind = λ t f. same-kind (r .tags t f);
     }

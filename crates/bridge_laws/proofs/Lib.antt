@@ -2,6 +2,12 @@
 pub mod Rows
 pub mod Parts
 pub mod Cores
+-- The effect of each step.
+pub mod Verbs
+pub mod Steps
+pub mod Serving
+pub mod Dropping
+pub mod Stores
 pub mod Effects
 pub mod Turns
 pub mod EachRow
@@ -13,6 +19,7 @@ pub mod ConfigLaws
 pub mod TakeLaws
 -- Memory reads and writes.
 pub mod Behind
+pub mod Pieces
 pub mod Kept
 pub mod Sends
 pub mod Stored
@@ -20,11 +27,11 @@ pub mod Asked
 pub mod PieceLaws
 pub mod MemoryExamples
 -- Completions, ticks, the link.
+pub mod Coming
 pub mod Keeping
 pub mod Finished
 pub mod Goodness
 pub mod Counting
-pub mod Coming
 pub mod TickLaws
 pub mod CompletionExamples
 pub mod Examples

@@ -1,32 +1,23 @@
 -- The pieces' windows and pages, and the next address.
-use Prim.Native.Nat.{ℕ, _+_, _-_, _%_, _/_, _≤_, _<_}
+use Prim.Native.Nat.{ℕ, _+_, _-_, _%_, _/_, _<_}
 use mathlib.Core.Path.{_≡_, sym, ap, _∙_}
-use mathlib.Core.Bool.{true}
 use native.Mathlib.Omega.{arith}
-use native.Mathlib.Nat.{mod-lt}
-use lib.ListN.{getD}
 use Rattle.address.specs.declared.Settings.{Settings}
 use Rattle.address.specs.declared.Windows.{Windows}
-use Rattle.address.specs.declared.Found.the-variants as found
-use Rattle.address.specs.Windows.{axi, windowOf, holdsAt}
-use Rattle.address.specs.Settings.{windowsRight}
+use Rattle.address.specs.Windows.{axi}
 use Rattle.address.specs.Laws.{Limit}
 use Rattle.address.proofs.Laws as address
 use Rattle.burst.specs.declared.Burst.{Burst}
 use Rattle.burst.specs.declared.Piece.{Piece}
 use Rattle.burst.specs.Bursts.{lengthOf}
 use Rattle.burst.specs.Words.{lowerAddress}
-use Rattle.burst.proofs.Pieces.{accepted-covers, burst-in-page, burst-in-window}
-use Rattle.burst.proofs.Tiling.{piece-not-empty, piece-within}
-use Rattle.burst.proofs.Words.{limit-words}
-use Rattle.machine.specs.Bridge.{Bridge}
-use Rattle.machine.specs.State.{nextAddress, placeOf}
-use Rattle.machine.specs.Memory.{windowFor, indexOf, pcieOf, piecesOf, pieceOf, readRefusal, readBridge}
-use Rattle.machine.proofs.Refusals.{read-ok}
+use Rattle.burst.proofs.Pieces.{burst-in-page}
+use Rattle.burst.proofs.Tiling.{piece-within}
+use Rattle.machine.specs.State.{placeOf}
+use Rattle.machine.specs.Memory.{windowFor, indexOf, pcieOf, piecesOf, pieceOf, readBridge}
 use Rattle.bridge_laws.specs.MemoryLaws.{Routed, Covered, tagOf}
-use Rattle.bridge_laws.specs.CompletionLaws.{Counts}
-use Rattle.bridge_laws.specs.PieceLaws.{ByteOf, Lies, PieceLies, NextBehind, ReadNext, NextMoves}
-use Rattle.bridge_laws.proofs.Behind.{is-at, row-behind, low-bits-behind}
+use Rattle.bridge_laws.specs.PieceLaws.{ByteOf, Lies, PieceLies, ReadNext, NextMoves}
+use Rattle.bridge_laws.proofs.Behind.{inside, byte-covered, piece-covered, row-behind, low-bits-behind}
 use Rattle.bridge_laws.proofs.Stored.{accepted-read-opens}
 
 -- two steps of d from numbers with equal low bits leave the page together
@@ -46,25 +37,11 @@ module _ (s : Settings) (q : Burst) (r : Routed s q) (l : ℕ) (limit : Limit l)
   abbrev i : ℕ
   i = indexOf (windowFor w q)
 
-  right : windowsRight w ≡ true
-  right = address.accepted-windows s (r .settings)
-
   covered : (x : ℕ) → ByteOf p x → Covered q x
-  covered x b =
-      let v = piece-within l (q .start .0) (lengthOf q) k (limit-words l limit .0) h in
-      (omega (arith, v .starts, b .0), omega (arith, v .ends, b .1))
+  covered x b = byte-covered s q r l limit k h x (b .0) (b .1)
 
-  -- its first byte is one of the burst's
   first : Covered q (p .first)
-  first =
-      let e = piece-not-empty l (q .start .0) (lengthOf q) k (limit-words l limit .0) (accepted-covers q (r .burst) .some) h in
-      covered (p .first) (omega arith, omega (arith, e))
-
-  inside : (x : ℕ) → ByteOf p x → (i < w .count) × (holdsAt w i (axi x) ≡ true)
-  inside x b =
-      let c = covered x b in
-      let e : windowOf (w .count) (w .base) (w .size) (axi x) ≡ found.At i = burst-in-window q (r .burst) w right x (c .0) (c .1) ∙ is-at (windowFor w q) (r .window) in
-      address.found-holds w (axi x) i e
+  first = piece-covered s q r l limit k h
 
   one-page : (x : ℕ) → ByteOf p x → x / 4096 ≡ p .first / 4096
   one-page x b =
@@ -84,8 +61,9 @@ module _ (s : Settings) (q : Burst) (r : Routed s q) (l : ℕ) (limit : Limit l)
   lies : Lies s q p
   lies =
       record {
-        window = λ x b. inside x b .1;
-        no-other = λ x j b g o. address.at-most-one-holds w right (axi x) j i g (inside x b .0) o (inside x b .1);
+        window = λ x b. inside s q r x (covered x b) .1;
+        no-other = λ x j b g o.
+            let n = inside s q r x (covered x b) in address.at-most-one-holds w (address.accepted-windows s (r .settings)) (axi x) j i g (n .0) o (n .1);
         page = one-page;
         page-behind = one-behind;
       }

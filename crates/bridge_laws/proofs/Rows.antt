@@ -1,144 +1,38 @@
--- The rows after a setter: one law for each column.
-use Prim.Native.Nat.{ℕ}
-use mathlib.Core.Path.{_≡_, refl, sym, ap}
-use mathlib.Core.Logic.{_≢_}
-use lib.ListN.{getD, set}
-use lib.Seq.{getD-set-other}
-use Rattle.machine.specs.State.{Bridge, Tag, Slot, tagAt, slotAt, setMissing, setSent, setOwner, setPlace, setNext, setKind, setState, setSize, setPieces, setFault, setCause}
-use Rattle.bridge_laws.specs.RowLaws.{SetsSlot, SetsTag}
+-- The rows after a setter, and the laws of columns by which the effect of every step is found.
+use Prim.Native.Nat.{ℕ, zero, suc, _<_}
+use mathlib.Core.Path.{_≡_, refl}
+use mathlib.Core.Bool.{Bool, true, false, cond}
+use mathlib.Core.List.{List, [], _∷_}
+use lib.ListN.{length, getD, set, replicate, length-set}
+use lib.Seq.{getD-set-same, getD-set-other}
+use Rattle.machine.specs.State.{tagCount, slotCount}
+use Rattle.bridge_laws.specs.RowLaws.{SettersAlone}
 
--- ---- by slot
+-- what a test decides, by its two cases
+pub either : {A : Type 0} (P : A → Type 0) (z : Bool) (x y : A) → (z ≡ true → P x) → (z ≡ false → P y) → P (cond z x y)
+either P true x y f g = f refl
+either P false x y f g = g refl
 
-abbrev state-put : Bridge → ℕ → ℕ → Slot
-state-put b j x = record { state = x; size = getD (b .size) j 0; pieces = getD (b .pieces) j 0; fault = getD (b .fault) j 0; cause = getD (b .cause) j 0 }
+-- a column of the right length has an entry for each tag, or for each slot
+pub tag-fits : (l : List ℕ) (t : ℕ) → length l ≡ tagCount → t < tagCount → t < length l
+tag-fits l t e h = rw e h
 
-abbrev size-put : Bridge → ℕ → ℕ → Slot
-size-put b j x = record { state = getD (b .state) j 0; size = x; pieces = getD (b .pieces) j 0; fault = getD (b .fault) j 0; cause = getD (b .cause) j 0 }
+pub slot-fits : (l : List ℕ) (k : ℕ) → length l ≡ slotCount → k < slotCount → k < length l
+slot-fits l k e h = rw e h
 
-abbrev pieces-put : Bridge → ℕ → ℕ → Slot
-pieces-put b j x = record { state = getD (b .state) j 0; size = getD (b .size) j 0; pieces = x; fault = getD (b .fault) j 0; cause = getD (b .cause) j 0 }
+-- a column of zeros, and a zero that is put
+pub zeros : (n i : ℕ) → getD {A = ℕ} (replicate n 0) i 0 ≡ 0
+zeros zero i = refl
+zeros (suc n) zero = refl
+zeros (suc n) (suc i) = zeros n i
 
-abbrev fault-put : Bridge → ℕ → ℕ → Slot
-fault-put b j x = record { state = getD (b .state) j 0; size = getD (b .size) j 0; pieces = getD (b .pieces) j 0; fault = x; cause = getD (b .cause) j 0 }
+pub set-zero : (l : List ℕ) (t : ℕ) → getD (set l t 0) t 0 ≡ 0
+set-zero [] t = refl
+set-zero (x ∷ l) zero = refl
+set-zero (x ∷ l) (suc t) = set-zero l t
 
-abbrev cause-put : Bridge → ℕ → ℕ → Slot
-cause-put b j x = record { state = getD (b .state) j 0; size = getD (b .size) j 0; pieces = getD (b .pieces) j 0; fault = getD (b .fault) j 0; cause = x }
+-- what an entry that is put leaves, and where it stands
+pub ruleset columns = (getD-set-other, length-set, getD-set-same, tag-fits, slot-fits)
 
-pub state-alone : SetsSlot setState
-state-alone k v b =
-    record {
-      slots = λ j d. ap (state-put b j) (getD-set-other (b .state) k j v 0 d);
-      tags = λ t. refl;
-      settings = refl;
-      core = refl;
-    }
-
-pub size-alone : SetsSlot setSize
-size-alone k v b =
-    record {
-      slots = λ j d. ap (size-put b j) (getD-set-other (b .size) k j v 0 d);
-      tags = λ t. refl;
-      settings = refl;
-      core = refl;
-    }
-
-pub pieces-alone : SetsSlot setPieces
-pieces-alone k v b =
-    record {
-      slots = λ j d. ap (pieces-put b j) (getD-set-other (b .pieces) k j v 0 d);
-      tags = λ t. refl;
-      settings = refl;
-      core = refl;
-    }
-
-pub fault-alone : SetsSlot setFault
-fault-alone k v b =
-    record {
-      slots = λ j d. ap (fault-put b j) (getD-set-other (b .fault) k j v 0 d);
-      tags = λ t. refl;
-      settings = refl;
-      core = refl;
-    }
-
-pub cause-alone : SetsSlot setCause
-cause-alone k v b =
-    record {
-      slots = λ j d. ap (cause-put b j) (getD-set-other (b .cause) k j v 0 d);
-      tags = λ t. refl;
-      settings = refl;
-      core = refl;
-    }
-
--- ---- by tag
-
-abbrev missing-put : Bridge → ℕ → ℕ → Tag
-missing-put b j x = record { missing = x; sent = getD (b .sent) j 0; owner = getD (b .owner) j 0; place = getD (b .place) j 0; next = getD (b .next) j 0; kind = getD (b .kind) j 0 }
-
-pub missing-alone : SetsTag setMissing
-missing-alone t v b =
-    record {
-      tags = λ u d. ap (missing-put b u) (getD-set-other (b .missing) t u v 0 d);
-      slots = λ j. refl;
-      settings = refl;
-      core = refl;
-    }
-
-abbrev sent-put : Bridge → ℕ → ℕ → Tag
-sent-put b j x = record { missing = getD (b .missing) j 0; sent = x; owner = getD (b .owner) j 0; place = getD (b .place) j 0; next = getD (b .next) j 0; kind = getD (b .kind) j 0 }
-
-pub sent-alone : SetsTag setSent
-sent-alone t v b =
-    record {
-      tags = λ u d. ap (sent-put b u) (getD-set-other (b .sent) t u v 0 d);
-      slots = λ j. refl;
-      settings = refl;
-      core = refl;
-    }
-
-abbrev owner-put : Bridge → ℕ → ℕ → Tag
-owner-put b j x = record { missing = getD (b .missing) j 0; sent = getD (b .sent) j 0; owner = x; place = getD (b .place) j 0; next = getD (b .next) j 0; kind = getD (b .kind) j 0 }
-
-pub owner-alone : SetsTag setOwner
-owner-alone t v b =
-    record {
-      tags = λ u d. ap (owner-put b u) (getD-set-other (b .owner) t u v 0 d);
-      slots = λ j. refl;
-      settings = refl;
-      core = refl;
-    }
-
-abbrev place-put : Bridge → ℕ → ℕ → Tag
-place-put b j x = record { missing = getD (b .missing) j 0; sent = getD (b .sent) j 0; owner = getD (b .owner) j 0; place = x; next = getD (b .next) j 0; kind = getD (b .kind) j 0 }
-
-pub place-alone : SetsTag setPlace
-place-alone t v b =
-    record {
-      tags = λ u d. ap (place-put b u) (getD-set-other (b .place) t u v 0 d);
-      slots = λ j. refl;
-      settings = refl;
-      core = refl;
-    }
-
-abbrev next-put : Bridge → ℕ → ℕ → Tag
-next-put b j x = record { missing = getD (b .missing) j 0; sent = getD (b .sent) j 0; owner = getD (b .owner) j 0; place = getD (b .place) j 0; next = x; kind = getD (b .kind) j 0 }
-
-pub next-alone : SetsTag setNext
-next-alone t v b =
-    record {
-      tags = λ u d. ap (next-put b u) (getD-set-other (b .next) t u v 0 d);
-      slots = λ j. refl;
-      settings = refl;
-      core = refl;
-    }
-
-abbrev kind-put : Bridge → ℕ → ℕ → Tag
-kind-put b j x = record { missing = getD (b .missing) j 0; sent = getD (b .sent) j 0; owner = getD (b .owner) j 0; place = getD (b .place) j 0; next = getD (b .next) j 0; kind = x }
-
-pub kind-alone : SetsTag setKind
-kind-alone t v b =
-    record {
-      tags = λ u d. ap (kind-put b u) (getD-set-other (b .kind) t u v 0 d);
-      slots = λ j. refl;
-      settings = refl;
-      core = refl;
-    }
+pub setters-alone : SettersAlone
+setters-alone = search columns

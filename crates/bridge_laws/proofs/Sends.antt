@@ -1,17 +1,15 @@
 -- What accepted calls send.
 use mathlib.Core.Path.{_≡_, refl, sym, ap, _∙_}
 use mathlib.Core.Bool.{true, false}
-use mathlib.Core.List.{List, [], _∷_, _++_, flatMap, append-assoc}
+use mathlib.Core.List.{List, [], _++_, flatMap, append-assoc, append-nil}
 use Prim.Native.Nat.{ℕ, zero, suc, _+_, _-_, _*_, _≤_, _<_}
 use native.Mathlib.Omega.{arith}
 use borrow.Author.Tests.{le-leb, lt-ltb}
 use lib.ListN.{length, getD, take, drop, length-append, length-drop}
-use lib.Dec.{ltb, leb}
+use lib.Dec.{leb}
 use lib.Seq.{length-take-le, getD-take, getD-drop}
-use Rattle.bits.specs.Bits.{clearBit}
-use Rattle.tags.specs.Tags.{lowest, available, without, lowestFew}
-use Rattle.tags.proofs.Tags.{listed-is-free, rising, take-one-by-one, turn-takes}
-use Rattle.tlp.specs.declared.request.Request.{Request}
+use Rattle.tags.specs.Tags.{lowest, available, freeTags}
+use Rattle.tags.proofs.Tags.{listed-is-free, rising}
 use Rattle.tlp.specs.Request.{requestBytes}
 use Rattle.tlp.specs.Laws.{ValidRequest}
 use Rattle.tlp.proofs.RequestTrip.{request-reads-back}
@@ -21,44 +19,30 @@ use Rattle.address.proofs.Laws.{accepted-reads, accepted-writes}
 use Rattle.burst.specs.declared.Burst.{Burst}
 use Rattle.burst.specs.declared.Piece.{Piece}
 use Rattle.burst.specs.Bursts.{lengthOf}
-use Rattle.burst.specs.Pieces.{addresses, Within}
+use Rattle.burst.specs.Pieces.{addresses}
 use Rattle.burst.specs.Words.{wordAddress, wordCount, wordsBefore}
-use Rattle.burst.proofs.Pieces.{accepted-covers}
-use Rattle.burst.proofs.Tiling.{piece-not-empty, piece-within}
-use Rattle.burst.proofs.Words.{limit-words, same-words, room-for-all, words-bytes}
+use Rattle.burst.proofs.Words.{same-words, room-for-all, words-bytes}
 use Rattle.machine.specs.Bridge.{Bridge}
-use Rattle.machine.specs.State.{tagCount, opened, freeSlot}
-use Rattle.machine.specs.Memory.{pcieOf, piecesOf, pieceOf, placeIn, pieceRequest, packet, claimed, readTo, readSent, writePacket, writeSent}
-use Rattle.bridge_laws.specs.MemoryLaws.{Routed, Covered, tagOf, readOf, ReadSends, AcceptedReadSends, writeOf, payloadOf, WriteSends, AcceptedWriteSends}
+use Rattle.machine.specs.State.{tagCount, freeSlot}
+use Rattle.machine.specs.Memory.{pcieOf, piecesOf, pieceOf, placeIn, pieceRequest, packet, claimed, readTo, readSent, readBytes, writePacket, writeSent}
+use Rattle.bridge_laws.specs.MemoryLaws.{Routed, tagOf, readOf, AcceptedReadSends, writeOf, payloadOf, AcceptedWriteSends}
 use Rattle.packets.proofs.Packets.{packet-valid, header-only, header-short, payload-length}
 use Rattle.machine.proofs.Refusals.{read-ok, write-ok, data-length}
-use Rattle.bridge_laws.proofs.Behind.{row-behind, low-bits-behind, piece-request-valid}
+use Rattle.bridge_laws.proofs.Verbs.{claimed-alone, as-claimed}
+use Rattle.bridge_laws.proofs.Pieces.{turn-tag}
+use Rattle.bridge_laws.proofs.Behind.{row-behind, low-bits-behind, piece-inside, byte-covered, piece-covered, piece-request-valid}
 
--- one more number at the end
-addresses-more : (n a : ℕ) → addresses a (suc n) ≡ addresses a n ++ ((a + n) ∷ [])
-unfolding addresses
-addresses-more zero a = let e : a + 0 ≡ a = omega arith in rw e
-addresses-more (suc n) a =
+-- one more at the end
+flat-from : (f : ℕ → List ℕ) (n a : ℕ) → flatMap f (addresses a (suc n)) ≡ flatMap f (addresses a n) ++ f (a + n)
+unfolding flatMap addresses
+flat-from f zero a = let e : a + 0 ≡ a = omega arith in rw e (append-nil (f a))
+flat-from f (suc n) a =
     let e : suc a + n ≡ a + suc n = omega arith in
-    ap (_∷_ a) (addresses-more n (suc a) ∙ ap (λ (x : ℕ). addresses (suc a) n ++ (x ∷ [])) e)
-
-flat-join : (f : ℕ → List ℕ) (x y : List ℕ) → flatMap f (x ++ y) ≡ flatMap f x ++ flatMap f y
-unfolding flatMap
-flat-join f [] y = refl
-flat-join f (a ∷ x) y = ap (_++_ (f a)) (flat-join f x y) ∙ sym (append-assoc (f a) (flatMap f x) (flatMap f y))
-
-append-none : (s : List ℕ) → s ++ [] ≡ s
-append-none [] = refl
-append-none (x ∷ s) = ap (_∷_ x) (append-none s)
+    ap (_++_ (f a)) (flat-from f n (suc a) ∙ ap (λ (k : ℕ). flatMap f (addresses (suc a) n) ++ f k) e)
+    ∙ sym (append-assoc (f a) (flatMap f (addresses (suc a) n)) (f (a + suc n)))
 
 flat-more : (f : ℕ → List ℕ) (n : ℕ) → flatMap f (addresses 0 (suc n)) ≡ flatMap f (addresses 0 n) ++ f n
-unfolding flatMap
-flat-more f n =
-    let e : 0 + n ≡ n = omega arith in
-    ap (flatMap f) (addresses-more n 0)
-    ∙ flat-join f (addresses 0 n) ((0 + n) ∷ [])
-    ∙ ap (λ (x : List ℕ). flatMap f (addresses 0 n) ++ x) (append-none (f (0 + n)))
-    ∙ ap (λ (k : ℕ). flatMap f (addresses 0 n) ++ f k) e
+flat-more f n = let e : 0 + n ≡ n = omega arith in rw e at (flat-from f n 0)
 
 word-below : (a x : ℕ) → a ≤ x → wordAddress a ≤ x
 unfolding wordAddress
@@ -73,44 +57,34 @@ module _ (b : Bridge) (q : Burst) (slot : ℕ) (enough : piecesOf (b .settings .
   abbrev free : ℕ
   free = b .core .free
 
-  -- the free word after k turns
-  pub word : (k : ℕ) → k ≤ available tagCount free → readTo slot q b k .core .free ≡ without free (lowestFew tagCount free k)
-  unfolding readTo opened without
-  word zero h = refl
-  word (suc k) h =
-      ap (λ (w : ℕ). clearBit w (lowest tagCount w)) (word k (omega arith))
-      ∙ sym (take-one-by-one tagCount free k (omega arith))
-
   -- the tag of turn k
   pub turn : (k : ℕ) → k < available tagCount free → lowest tagCount (readTo slot q b k .core .free) ≡ tagOf b k
-  turn k h = ap (lowest tagCount) (word k (omega arith)) ∙ turn-takes tagCount free k h
-
-  tag-below : (k : ℕ) → k < available tagCount free → tagOf b k < 256
-  tag-below k h = omega (arith, listed-is-free tagCount free k h .below)
+  turn k h = turn-tag slot q b k h
 
   module _ (r : Routed (b .settings) q) where
     read-valid : (k : ℕ) → k < piecesOf (b .settings .reads) q → ValidRequest (readOf b q k)
     read-valid k h =
-        piece-request-valid (b .settings) q r (b .settings .reads) (accepted-reads (b .settings) (r .settings)) k h false (tagOf b k) (tag-below k (omega arith))
+        piece-request-valid (b .settings) q r (b .settings .reads) (accepted-reads (b .settings) (r .settings)) k h false (tagOf b k) (omega (arith, listed-is-free tagCount free k (omega arith) .below))
 
     sends : (k : ℕ) → k ≤ piecesOf (b .settings .reads) q → readSent slot q b k ≡ flatMap (λ (k : ℕ). requestBytes (readOf b q k)) (addresses 0 k)
     unfolding readSent flatMap addresses
     sends zero h = refl
     sends (suc k) h =
         let e : packet (pieceRequest false (b .settings) q (lowest tagCount (readTo slot q b k .core .free)) (pieceOf (b .settings .reads) q k)) [] ≡ requestBytes (readOf b q k) =
-        ap (λ (t : ℕ). packet (pieceRequest false (b .settings) q t (pieceOf (b .settings .reads) q k)) []) (turn k (omega arith))
-        ∙ header-only (readOf b q k) (read-valid k (omega arith) .0) in
-        ap (λ (x : List ℕ). x ++ packet (pieceRequest false (b .settings) q (lowest tagCount (readTo slot q b k .core .free)) (pieceOf (b .settings .reads) q k)) []) (sends k (omega arith))
-        ∙ ap (λ (x : List ℕ). flatMap (λ (k : ℕ). requestBytes (readOf b q k)) (addresses 0 k) ++ x) e
-        ∙ sym (flat-more (λ (k : ℕ). requestBytes (readOf b q k)) k)
+        rw (turn k (omega arith)) (header-only (readOf b q k) (read-valid k (omega arith) .0)) in
+        cc (sends k (omega arith), e, flat-more (λ (k : ℕ). requestBytes (readOf b q k)) k)
 
 pub accepted-read-sends : AcceptedReadSends
-unfolding claimed
 accepted-read-sends b q room e f =
     let ok = read-ok b q room f in
+    let k = freeSlot b in
+    let n = piecesOf (b .settings .reads) q in
+    let a = claimed-alone k q b in
     let r : Routed (b .settings) q = record { settings = e; burst = ok .burst; window = ok .window } in
     record {
-      sent = sends (claimed (freeSlot b) q b) q (freeSlot b) (ok .tags) r (piecesOf (b .settings .reads) q) (omega arith);
+      sent =
+          as-claimed k q b (λ s d. readBytes b q ≡ flatMap (λ (i : ℕ). requestBytes (pieceRequest false s q (getD (freeTags tagCount (d .free)) i 0) (pieceOf (s .reads) q i))) (addresses 0 n))
+          (sends (claimed k q b) q k (rw (a .core, a .settings) (ok .tags)) (rw (a .settings) r) n (rw (a .settings) (omega arith)));
       back = λ k h. request-reads-back (readOf b q k) (read-valid b q (freeSlot b) (ok .tags) r k h);
       free = λ k h. listed-is-free tagCount (b .core .free) k (omega (arith, ok .tags));
       rise = λ i j h g. rising tagCount (b .core .free) i j h (omega (arith, ok .tags));
@@ -134,15 +108,6 @@ module _ (s : Settings) (q : Burst) (bytes : List ℕ) (room : ℕ) (r : Routed 
   write-valid : (k : ℕ) → k < piecesOf l q → ValidRequest (writeOf s q k)
   write-valid k h = piece-request-valid s q r l limit k h true 0 (omega arith)
 
-  within : (k : ℕ) → k < piecesOf l q → Within (q .start .0) (lengthOf q) (p k)
-  within k h = piece-within l (q .start .0) (lengthOf q) k (limit-words l limit .0) h
-
-  covered : (k : ℕ) → k < piecesOf l q → (x : ℕ) → p k .first ≤ x → x < p k .first + p k .length → Covered q x
-  covered k h x f g = let i = within k h in (omega arith, omega arith)
-
-  some : (k : ℕ) → k < piecesOf l q → 0 < p k .length
-  some k h = piece-not-empty l (q .start .0) (lengthOf q) k (limit-words l limit .0) (accepted-covers q (r .burst) .some) h
-
   -- the packet of the k-th piece
   packet-is : (k : ℕ) → k < piecesOf l q → writePacket s q bytes k ≡ requestBytes (writeOf s q k) ++ payloadOf s q bytes k
   unfolding writePacket
@@ -151,8 +116,8 @@ module _ (s : Settings) (q : Burst) (bytes : List ℕ) (room : ℕ) (r : Routed 
   -- its length: a header, and the words that the piece touches
   packet-room : (k : ℕ) → k < piecesOf l q → length (writePacket s q bytes k) ≤ 16 + 4 * wordCount (p k .first) (p k .length)
   packet-room k h =
-      let i = within k h in
-      let c = low-bits-behind s q r (p k .first) (covered k h (p k .first) (omega arith) (omega (arith, some k h))) in
+      let i = piece-inside s q r l limit k h in
+      let c = low-bits-behind s q r (p k .first) (piece-covered s q r l limit k h) in
       let d = same-words (y k) (p k .first) (p k .length) c in
       let e : length (payloadOf s q bytes k) ≡ 4 * wordCount (y k) (p k .length) = payload-length (y k) (p k .length) (placeIn q (p k)) bytes (omega arith) in
       omega (arith, ap length (packet-is k h), length-append (requestBytes (writeOf s q k)) (payloadOf s q bytes k), header-short (writeOf s q k) .1, e, d .0)
@@ -181,20 +146,17 @@ module _ (s : Settings) (q : Burst) (bytes : List ℕ) (room : ℕ) (r : Routed 
   all zero h = refl
   all (suc k) h =
       let f : ℕ → List ℕ = λ (k : ℕ). requestBytes (writeOf s q k) ++ payloadOf s q bytes k in
-      rw (none-out k h (short k (omega arith)))
-      (ap (λ (x : List ℕ). x ++ writePacket s q bytes k) (all k (omega arith))
-      ∙ ap (λ (x : List ℕ). flatMap f (addresses 0 k) ++ x) (packet-is k h)
-      ∙ sym (flat-more f k))
+      rw (none-out k h (short k (omega arith))) (cc (all k (omega arith), packet-is k h, flat-more f k))
 
   -- a byte of the k-th piece in its words
   carried : (k : ℕ) → k < piecesOf l q → (x : ℕ) → p k .first ≤ x → x < p k .first + p k .length
       → getD (payloadOf s q bytes k) (pcieOf (s .windows) q x - wordAddress (y k)) 0 ≡ getD bytes (x - q .start .0) 0
   carried k h x f g =
-      let i = within k h in
+      let i = piece-inside s q r l limit k h in
       let d = take (p k .length) (drop (placeIn q (p k)) bytes) in
       let z = pcieOf (s .windows) q x in
-      let ex = row-behind s q r x (covered k h x f g) in
-      let ey = row-behind s q r (p k .first) (covered k h (p k .first) (omega arith) (omega arith)) in
+      let ex = row-behind s q r x (byte-covered s q r l limit k h x f g) in
+      let ey = row-behind s q r (p k .first) (piece-covered s q r l limit k h) in
       let n : length d ≡ p k .length = part-length (p k .length) (placeIn q (p k)) bytes (omega arith) in
       let a : y k ≤ z = omega (arith, ex, ey, i .starts) in
       let b : z < y k + length d = omega (arith, ex, ey, i .starts, n) in
@@ -202,11 +164,7 @@ module _ (s : Settings) (q : Burst) (bytes : List ℕ) (room : ℕ) (r : Routed 
       let j : z - y k ≡ x - p k .first = omega (arith, ex, ey, i .starts) in
       let m : placeIn q (p k) + (x - p k .first) ≡ x - q .start .0 = omega (arith, i .starts) in
       words-bytes (y k) d z c
-      ∙ rw (le-leb _ _ a, lt-ltb _ _ b)
-      (ap (λ (u : ℕ). getD d u 0) j
-      ∙ getD-take (p k .length) (drop (placeIn q (p k)) bytes) (x - p k .first) 0 (omega arith)
-      ∙ getD-drop (placeIn q (p k)) bytes (x - p k .first) 0
-      ∙ ap (λ (u : ℕ). getD bytes u 0) m)
+      ∙ rw (le-leb _ _ a, lt-ltb _ _ b, j, getD-take (p k .length) (drop (placeIn q (p k)) bytes) (x - p k .first) 0 (omega arith), getD-drop (placeIn q (p k)) bytes (x - p k .first) 0, m)
 
 pub accepted-write-sends : AcceptedWriteSends
 accepted-write-sends b q bytes room e f =

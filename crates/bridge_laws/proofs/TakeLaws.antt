@@ -1,21 +1,25 @@
 -- Taking an answer.
 use mathlib.Core.Path.{_≡_, refl, sym, ap, subst, _∙_}
-use mathlib.Core.Bool.{Bool, true, false, cond, not}
+use mathlib.Core.Bool.{Bool, true, false, not}
 use mathlib.Core.List.{List, [], _∷_, _++_}
-use Prim.Native.Nat.{ℕ, zero, suc, _+_, _*_, _<_, _≤_, min}
+use Prim.Native.Nat.{ℕ, _+_, _*_, _<_, _≤_}
 use native.Mathlib.Omega.{arith}
+use native.Mathlib.Decide.{decLt}
 use borrow.Author.Tests.{lt-ltb, le-ltb, eq-eqb, ne-eqb, ltb-true, ltb-false, eqb-true}
-use lib.ListN.{length, getD, set, take, drop, length-drop, take-append-drop}
+use lib.ListN.{length, getD, take, drop, length-drop, take-append-drop}
 use lib.Seq.{getD-set-other, getD-take, getD-drop, length-take-le}
 use lib.Dec.{ltb, eqb}
 use Rattle.refusals.specs.Table.{takeOrder, refusedBy}
 use Rattle.refusals.specs.declared.Response.the-variants.{Nothing, Okay, Slverr, Decerr, Wait}
 use Rattle.machine.specs.Bridge.{Bridge}
 use Rattle.parts.specs.declared.Core.{Core}
-use Rattle.machine.specs.State.{coreIn, responseOf, refusalChange, refusal, accepted, answered, refused}
+use Rattle.parts.specs.declared.Answer.{Answer}
+use Rattle.machine.specs.State.{Answered, freeConfig, coreIn, responseOf, refusalChange, refusal, accepted, answered, refused}
 use Rattle.machine.specs.Completions.{storeSize, sizeOf}
 use Rattle.machine.specs.Take.{stateIn, stateOf, takeNumber, takeRefusal, looked, slotFreed, releaseStep}
 use Rattle.bridge_laws.specs.ConfigLaws.{ResponseCoded, ReleaseNumber, TakeRefused, PartOf, LookIsPart, LookAtSlot, LookAtConfig, Released, ReleaseFrees, ReleaseOnce}
+use Rattle.bridge_laws.proofs.Rows.{either, set-zero}
+use Rattle.bridge_laws.proofs.Verbs.{freed-read, freed-config}
 
 -- ---- the refusals
 
@@ -41,23 +45,16 @@ passes room found l e = rw (le-ltb room storeSize l, eq-eqb found 2 e)
 -- 8 and 14 change nothing
 kept : (room found : ℕ) (c : Core) → refusalChange (takeNumber room found) c ≡ c
 unfolding takeNumber refusalChange
-kept room found c = by (ltb room storeSize) (eqb found 2)
-  where
-    by : (p q : Bool) → refusalChange (refusedBy takeOrder (p ∷ not q ∷ [])) c ≡ c
-    by true q = refl
-    by false false = refl
-    by false true = refl
+kept room found c =
+    either (λ (n : ℕ). refusalChange n c ≡ c) (ltb room storeSize) _ _ (λ e. refl)
+    (λ e. either (λ (n : ℕ). refusalChange n c ≡ c) (not (eqb found 2)) _ _ (λ f. refl) (λ f. refl))
 
 pub release-number : ReleaseNumber
 unfolding releaseStep refused refusal accepted
-release-number b room k = by (takeRefusal b room k) (eqb (takeRefusal b room k) 0) (ltb k 8) refl
-  where
-    by : (n : ℕ) (x y : Bool) → eqb n 0 ≡ x
-        → cond x (answered (slotFreed k b) (cond y (accepted (responseOf (getD (b .cause) k 0)) 0 0 0)
-        (accepted (responseOf (b .core .config .response)) 0 0 (b .core .config .word)))) (refused n b) .answer .number ≡ n
-    by n true true e = sym (eqb-true _ _ e)
-    by n true false e = sym (eqb-true _ _ e)
-    by n false y e = refl
+release-number b room k =
+    let n = takeRefusal b room k in
+    either (λ (x : Answered). x .answer .number ≡ n) (eqb n 0) _ _
+    (λ e. either (λ (a : Answer). a .number ≡ n) (ltb k 8) _ _ (λ f. sym (eqb-true _ _ e)) (λ f. sym (eqb-true _ _ e))) (λ e. refl)
 
 pub take-refused : TakeRefused
 unfolding looked releaseStep refused
@@ -83,87 +80,65 @@ response-coded Wait l = absurd (omega arith)
 
 pub look-is-part : LookIsPart
 unfolding looked
-look-is-part b store k = by (eqb (takeRefusal b (length store) k) 0) (ltb k 8)
-  where
-    by : (p q : Bool) → PartOf (cond p (cond q (take (sizeOf b k) (drop (4096 * k) store)) []) []) store
-    by true true =
-        record {
-          before = take (4096 * k) store;
-          after = drop (sizeOf b k) (drop (4096 * k) store);
-          whole =
-              ap (λ (x : List ℕ). take (4096 * k) store ++ x) (take-append-drop (sizeOf b k) (drop (4096 * k) store))
-              ∙ take-append-drop (4096 * k) store;
-        }
-    by true false = record { before = []; after = store; whole = refl }
-    by false q = record { before = []; after = store; whole = refl }
+look-is-part b store k =
+    let none : PartOf [] store = record { before = []; after = store; whole = refl } in
+    let P : List ℕ → Type 0 = λ (x : List ℕ). PartOf x store in
+    either P (eqb (takeRefusal b (length store) k) 0) _ _
+    (λ e. either P (ltb k 8) _ _
+    (λ f. record {
+      before = take (4096 * k) store;
+      after = drop (sizeOf b k) (drop (4096 * k) store);
+      whole =
+          ap (λ (x : List ℕ). take (4096 * k) store ++ x) (take-append-drop (sizeOf b k) (drop (4096 * k) store))
+          ∙ take-append-drop (4096 * k) store;
+    }) (λ f. none)) (λ e. none)
 
 -- the part of an accepted look at a read's slot
 slot-part : (b : Bridge) (store : List ℕ) (k : ℕ) → takeRefusal b (length store) k ≡ 0 → k < 8 → looked b store k ≡ take (sizeOf b k) (drop (4096 * k) store)
 unfolding looked
 slot-part b store k e h = rw (eq-eqb _ _ e, lt-ltb _ _ h)
 
-within : (n : ℕ) → min n 4096 ≤ 4096
-within n = omega arith
-
 pub look-at-slot : LookAtSlot
 look-at-slot b store k e h =
     let p = passed (length store) (stateOf b k) e in
     record {
-      size = ap length (slot-part b store k e h) ∙ length-take-le (sizeOf b k) (drop (4096 * k) store) (omega (arith, p .long, within (getD (b .size) k 0), length-drop (4096 * k) store));
+      size = ap length (slot-part b store k e h) ∙ length-take-le (sizeOf b k) (drop (4096 * k) store) (omega (arith, p .long, length-drop (4096 * k) store));
       at = λ i l. ap (λ (s : List ℕ). getD s i 0) (slot-part b store k e h) ∙ getD-take (sizeOf b k) (drop (4096 * k) store) i 0 l ∙ getD-drop (4096 * k) store i 0;
     }
 
 pub look-at-config : LookAtConfig
 unfolding looked
-look-at-config b store = by (eqb (takeRefusal b (length store) 8) 0)
-  where
-    by : (p : Bool) → cond {A = List ℕ} p [] [] ≡ []
-    by true = refl
-    by false = refl
+look-at-config b store = either (λ (x : List ℕ). x ≡ []) (eqb (takeRefusal b (length store) 8) 0) _ _ (λ e. refl) (λ e. refl)
 
 -- ---- the release
-
-set-zero : (l : List ℕ) (k : ℕ) → getD (set l k 0) k 0 ≡ 0
-set-zero [] k = refl
-set-zero (x ∷ l) zero = refl
-set-zero (x ∷ l) (suc k) = set-zero l k
 
 -- there is no slot past 8
 in-range : (config : ℕ) (states : List ℕ) (k : ℕ) → stateIn config states k ≡ 2 → k ≤ 8
 unfolding stateIn
-in-range config states k e = by (eqb k 8) (ltb k 8) refl refl e
-  where
-    by : (p q : Bool) → eqb k 8 ≡ p → ltb k 8 ≡ q → cond p config (cond q (getD states k 0) 0) ≡ 2 → k ≤ 8
-    by true q ep eq e = omega (arith, eqb-true k 8 ep)
-    by false true ep eq e = omega (arith, ltb-true k 8 eq)
-    by false false ep eq e = absurd (omega arith)
-
-not-eight : (k : ℕ) → k < 8 → k ≡ 8 → ⊥
-not-eight k h e = omega arith
+in-range config states k =
+    either (λ (x : ℕ). x ≡ 2 → k ≤ 8) (eqb k 8) _ _ (λ f e. omega (arith, eqb-true k 8 f))
+    (λ f. either (λ (x : ℕ). x ≡ 2 → k ≤ 8) (ltb k 8) _ _ (λ g e. omega (arith, ltb-true k 8 g)) (λ g e. absurd (omega arith)))
 
 freed-slot : (b : Bridge) (k : ℕ) → k ≤ 8 → Released b k (slotFreed k b)
-unfolding slotFreed stateIn
-freed-slot b k h = by (ltb k 8) refl
+unfolding stateIn
+freed-slot b k h = by (decLt k 8)
   where
-    by : (x : Bool) → ltb k 8 ≡ x → Released b k (slotFreed k b)
-    by true e =
-        record {
-          free = rw (e, ne-eqb _ _ (not-eight k (ltb-true _ _ e))) (set-zero (b .state) k);
-          others = λ j n. rw (e, getD-set-other (b .state) k j 0 0 n);
-          config = λ l. rw e;
-          emptied = λ z. absurd (not-eight k (ltb-true _ _ e) z);
-          rest = rw e;
-        }
-    by false e =
-        let l : 8 ≤ k = ltb-false _ _ e in
-        let z : k ≡ 8 = omega arith in
-        record {
-          free = rw (e, eq-eqb _ _ z);
-          others = λ j n. let m : j ≡ 8 → ⊥ = λ s. n (s ∙ sym z) in rw (e, ne-eqb _ _ m);
+    by : Dec (k < 8) → Released b k (slotFreed k b)
+    by (yes l) =
+        let n : k ≡ 8 → ⊥ = λ e. omega arith in
+        let o : k ≡ 8 → b .core .config ≡ freeConfig = λ e. absurd (n e) in
+        subst (Released b k) (sym (freed-read k b l))
+        (search (set-zero, getD-set-other, lt-ltb k 8 l, ne-eqb k 8 n))
+    by (no l) =
+        let z : k ≡ 8 = omega (arith, l) in
+        subst (Released b k) (sym (freed-config k b (omega (arith, l))))
+        (record {
+          free = rw (eq-eqb k 8 z);
+          others = λ j d. let m : j ≡ 8 → ⊥ = λ s. d (s ∙ sym z) in rw (ne-eqb j 8 m);
           config = λ m. absurd (omega arith);
-          emptied = λ m. rw e;
-          rest = rw e;
-        }
+          emptied = λ m. refl;
+          rest = refl;
+        })
 
 freed-bridge : (b : Bridge) (room k : ℕ) → takeRefusal b room k ≡ 0 → releaseStep b room k .bridge ≡ slotFreed k b
 unfolding releaseStep

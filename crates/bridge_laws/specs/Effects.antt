@@ -4,8 +4,7 @@ use Prim.Native.Nat.{ℕ, _+_, _*_, _^_, _-_, _<_, _≤_}
 use mathlib.Core.Path.{_≡_}
 use mathlib.Core.Logic.{_≢_}
 use mathlib.Core.List.{List}
-use mathlib.Core.Bool.{Bool, true, false}
-use lib.ListN.{length}
+use mathlib.Core.Bool.{false}
 use lib.Seq.{paste}
 use Rattle.tags.specs.Tags.{lowest, available}
 use Rattle.burst.specs.declared.Burst.{Burst}
@@ -16,12 +15,12 @@ use Rattle.verdict.specs.declared.Cause.{Cause}
 use Rattle.verdict.specs.declared.Cause.the-variants.{Poison, Timeout}
 use Rattle.verdict.specs.declared.Verdict.{Verdict}
 use Rattle.verdict.specs.declared.Verdict.the-variants.{Good, Poisoned, Failed}
-use Rattle.machine.specs.State.{Bridge, Tag, Slot, withFree, tagAt, slotAt, missingOf, placeOf, ownerOf, tagCount, slotCount, slotSize, configSlot, slverr, withConfig, openConfig, freeConfig, raisedCore, coreIn, opened, counted, shut, freed}
+use Rattle.machine.specs.State.{Bridge, Tag, Slot, withFree, tagAt, slotAt, missingOf, placeOf, ownerOf, tagCount, slotCount, slotSize, slverr, withConfig, openConfig, freeConfig, raisedCore, coreIn, opened, counted, shut, freed}
 use Rattle.machine.specs.Verdict.{causeResponse, causeBit}
 use Rattle.machine.specs.Memory.{piecesOf, claimed}
 use Rattle.machine.specs.Config.{Access, routedBridge, wordPending}
 use Rattle.machine.specs.Completions.{Held, held, usefulBytes, failed, pieceClosed, memoryCompleted, configCompleted, configAnswer, configDone, isUnexpected}
-use Rattle.machine.specs.Ticks.{timedOut, isOld, expireTo, dropSlots, linkLost, linkIn, dropConfig}
+use Rattle.machine.specs.Ticks.{timedOut, dropSlots, linkLost, linkIn, dropConfig}
 use Rattle.machine.specs.Take.{slotFreed}
 use Rattle.bridge_laws.specs.MemoryLaws.{Tables}
 use Rattle.bridge_laws.specs.Rows.{countedTag, shutTag, pendingTag, faultedSlot, closedSlot, waitingSlot, droppedSlot, freedSlot, freedCore, takenCore, closedStore}

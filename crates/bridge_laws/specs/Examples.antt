@@ -1,7 +1,7 @@
 -- The worked examples of document 01: the ten starred ones, as facts about the definitions.
 use Prim.Native.Nat.{ℕ, _^_, _-_}
 use mathlib.Core.Path.{_≡_}
-use mathlib.Core.List.{List, [], _∷_, map}
+use mathlib.Core.List.{[], _∷_, map}
 use mathlib.Core.Bool.{true, false}
 use lib.ListN.{getD}
 use Rattle.address.specs.declared.Settings.{Settings}

@@ -1,7 +1,6 @@
 -- Memory calls of the worked examples, and calls at the edges of the refusals, as facts about the definitions.
 use mathlib.Core.Path.{_≡_}
 use mathlib.Core.List.{[], _∷_}
-use mathlib.Core.Bool.{true}
 use Prim.Native.Nat.{_-_, _^_}
 use Rattle.address.specs.Settings.{exampleSettings}
 use Rattle.burst.specs.Examples.{incr}

@@ -1,5 +1,6 @@
 -- What holds of memory reads and writes.
 use mathlib.Core.Path.{_≡_}
+use mathlib.Core.Logic.{_≢_}
 use mathlib.Core.List.{List, _++_, flatMap}
 use mathlib.Core.Bool.{Bool, true, false, cond, _&&_}
 use Prim.Native.Nat.{ℕ, _+_, _-_, _*_, _/_, _%_, _^_, _≤_, _<_}
@@ -24,8 +25,9 @@ use Rattle.burst.specs.Bursts.{burstNumber, lengthOf}
 use Rattle.burst.specs.Pieces.{addresses, pieces}
 use Rattle.burst.specs.Words.{wordAddress, lowerAddress, wanted, wordsOf}
 use Rattle.machine.specs.Bridge.{Bridge}
-use Rattle.machine.specs.State.{tagCount, slotCount, slotSize, slotOpen, memoryRead, raise, freeSlot, refusal}
-use Rattle.machine.specs.Memory.{windowFor, pcieOf, piecesOf, pieceOf, placeIn, memoryRequest, pieceRequest, packet, readRefusal, readBridge, readBytes, readStep, readArea, writeRefusal, writeBytes, writeStep, writeArea}
+use Rattle.machine.specs.State.{tagCount, slotCount, slotSize, slotOpen, memoryRead, tagAt, slotAt, raise, freeSlot, refusal}
+use Rattle.machine.specs.Memory.{windowFor, pcieOf, piecesOf, pieceOf, placeIn, piecePending, memoryRequest, pieceRequest, packet, readRefusal, readBridge, readBytes, readStep, readArea, writeRefusal, writeBytes, writeStep, writeArea}
+use Rattle.bridge_laws.specs.Rows.{pendingTag, waitingSlot}
 
 -- ## Behind the window
 
@@ -120,8 +122,21 @@ abbrev pub AcceptedReadSends : Type 0
 AcceptedReadSends =
     (b : Bridge) (q : Burst) (room : ℕ) → settingsNumber (b .settings) ≡ 0 → readRefusal b q room ≡ 0 → ReadSends b q
 
--- what it leaves as it was: settings, registers, ticks, configuration slot; the columns at other slots, and at tags that are
--- not free
+-- what it leaves as it was: settings, registers, ticks, configuration slot; the rows of other slots, and of tags that are not
+-- free
+pub record KeepsRows (b c : Bridge) : Type 0 where
+  pub settings : c .settings ≡ b .settings
+  pub registers : c .core .registers ≡ b .core .registers
+  pub ticks : c .core .ticks ≡ b .core .ticks
+  pub config : c .core .config ≡ b .core .config
+  pub slots : (k : ℕ) → k ≢ freeSlot b → slotAt c k ≡ slotAt b k
+  pub free : (t : ℕ) → isSet (b .core .free) t ≡ false → isSet (c .core .free) t ≡ false
+  pub tags : (t : ℕ) → isSet (b .core .free) t ≡ false → tagAt c t ≡ tagAt b t
+
+abbrev pub ReadKeepsRows : Type 0
+ReadKeepsRows = (b : Bridge) (q : Burst) (room : ℕ) → readRefusal b q room ≡ 0 → KeepsRows b (readBridge b q)
+
+-- the same by columns
 pub record ReadKeeps (b c : Bridge) : Type 0 where
   pub settings : c .settings ≡ b .settings
   pub registers : c .core .registers ≡ b .core .registers
@@ -158,6 +173,19 @@ pub record Tables (b : Bridge) : Type 0 where
   pub cause : length (b .cause) ≡ slotCount
 
 -- what an accepted read stores: each piece at its tag, the burst at its slot; the tags are no longer free
+pub record OpensRows (b : Bridge) (q : Burst) (c : Bridge) : Type 0 where
+  pub free : c .core .free ≡ without (b .core .free) (lowestFew tagCount (b .core .free) (piecesOf (b .settings .reads) q))
+  pub tag :
+      (k : ℕ) → k < piecesOf (b .settings .reads) q
+      → tagAt c (tagOf b k)
+      ≡ pendingTag (b .core .ticks) (piecePending (freeSlot b) (b .settings) q (pieceOf (b .settings .reads) q k))
+  pub slot : slotAt c (freeSlot b) ≡ waitingSlot (lengthOf q) (piecesOf (b .settings .reads) q)
+
+abbrev pub ReadOpensRows : Type 0
+ReadOpensRows =
+    (b : Bridge) (q : Burst) (room : ℕ) → Tables b → readRefusal b q room ≡ 0 → OpensRows b q (readBridge b q)
+
+-- the same by columns
 pub record ReadOpens (b : Bridge) (q : Burst) (c : Bridge) : Type 0 where
   pub free : c .core .free ≡ without (b .core .free) (lowestFew tagCount (b .core .free) (piecesOf (b .settings .reads) q))
   pub missing :

@@ -2,7 +2,7 @@
 use Prim.Native.Nat.{ℕ}
 use mathlib.Core.Path.{_≡_}
 use mathlib.Core.Logic.{_≢_}
-use Rattle.machine.specs.State.{Bridge, slotAt, tagAt}
+use Rattle.machine.specs.State.{Bridge, slotAt, tagAt, setMissing, setSent, setOwner, setPlace, setNext, setKind, setState, setSize, setPieces, setFault, setCause}
 
 -- what changes slot k alone: other slots' rows, every tag's row, the settings and the core stay
 pub record SlotAlone (k : ℕ) (b x : Bridge) : Type 0 where
@@ -23,3 +23,17 @@ SetsSlot set = (k v : ℕ) (b : Bridge) → SlotAlone k b (set k v b)
 
 abbrev pub SetsTag : (ℕ → ℕ → Bridge → Bridge) → Type 0
 SetsTag set = (t v : ℕ) (b : Bridge) → TagAlone t b (set t v b)
+
+-- each setter
+pub record SettersAlone : Type 0 where
+  pub missing : SetsTag setMissing
+  pub sent : SetsTag setSent
+  pub owner : SetsTag setOwner
+  pub place : SetsTag setPlace
+  pub next : SetsTag setNext
+  pub kind : SetsTag setKind
+  pub state : SetsSlot setState
+  pub size : SetsSlot setSize
+  pub pieces : SetsSlot setPieces
+  pub fault : SetsSlot setFault
+  pub cause : SetsSlot setCause
