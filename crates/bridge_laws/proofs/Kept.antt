@@ -15,8 +15,7 @@ use Rattle.machine.specs.Bridge.{Bridge}
 use Rattle.machine.specs.State.{coreIn, raise, freeSlot, refusalChange, refusal, refused}
 use Rattle.machine.specs.Memory.{piecesOf, readRefusal, claimed, readStep, readArea, writeRefusal, writeStep, writeArea}
 use Rattle.machine.proofs.Refusals.{read-ok}
-use Rattle.bridge_laws.specs.MemoryLaws.{ReadKeepsRows, AcceptedReadKeeps, RefusedRead, RefusedWrite}
-use Rattle.bridge_laws.proofs.Parts.{same-missing, same-sent, same-owner, same-place, same-next, same-kind, same-state, same-size, same-pieces, same-fault, same-cause}
+use Rattle.bridge_laws.specs.MemoryLaws.{AcceptedReadKeeps, RefusedRead, RefusedWrite}
 use Rattle.bridge_laws.proofs.Verbs.{claimed-alone}
 use Rattle.bridge_laws.proofs.Pieces.{opens-slot}
 pub use Rattle.bridge_laws.proofs.Pieces.{Opens, opens-all, tags-left}
@@ -62,8 +61,8 @@ refused-write b q bytes area h =
 
 -- ---- an accepted read
 
-pub read-keeps-rows : ReadKeepsRows
-read-keeps-rows b q room e =
+pub accepted-read-keeps : AcceptedReadKeeps
+accepted-read-keeps b q room e =
     let a = claimed-alone (freeSlot b) q b in
     let o = opens-all (freeSlot b) q (claimed (freeSlot b) q b) (piecesOf (b .settings .reads) q) (rw (a .core) (read-ok b q room e .tags)) in
     record {
@@ -74,26 +73,4 @@ read-keeps-rows b q room e =
       slots = λ k d. opens-slot o k ∙ a .slots k d;
       free = λ t f. o .used t (rw (a .core) f);
       tags = λ t f. o .tags t (rw (a .core) f) ∙ a .tags t;
-    }
-
-pub accepted-read-keeps : AcceptedReadKeeps
-accepted-read-keeps b q room e =
-    let r = read-keeps-rows b q room e in
-    record {
-      settings = r .settings;
-      registers = r .registers;
-      ticks = r .ticks;
-      config = r .config;
-      state = λ k d. same-state (r .slots k d);
-      size = λ k d. same-size (r .slots k d);
-      pieces = λ k d. same-pieces (r .slots k d);
-      fault = λ k d. same-fault (r .slots k d);
-      cause = λ k d. same-cause (r .slots k d);
-      free = r .free;
-      missing = λ t f. same-missing (r .tags t f);
-      sent = λ t f. same-sent (r .tags t f);
-      owner = λ t f. same-owner (r .tags t f);
-      place = λ t f. same-place (r .tags t f);
-      next = λ t f. same-next (r .tags t f);
-      kind = λ t f. same-kind (r .tags t f);
     }

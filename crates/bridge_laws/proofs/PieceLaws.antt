@@ -16,6 +16,7 @@ use Rattle.burst.proofs.Tiling.{piece-within}
 use Rattle.machine.specs.State.{placeOf}
 use Rattle.machine.specs.Memory.{windowFor, indexOf, pcieOf, piecesOf, pieceOf, readBridge}
 use Rattle.bridge_laws.specs.MemoryLaws.{Routed, Covered, tagOf}
+use Rattle.bridge_laws.proofs.Parts.{same-place, same-next}
 use Rattle.bridge_laws.specs.PieceLaws.{ByteOf, Lies, PieceLies, ReadNext, NextMoves}
 use Rattle.bridge_laws.proofs.Behind.{inside, byte-covered, piece-covered, row-behind, low-bits-behind}
 use Rattle.bridge_laws.proofs.Stored.{accepted-read-opens}
@@ -73,11 +74,11 @@ piece-lies s q r l limit k h = lies s q r l limit k h
 
 pub read-next : ReadNext
 read-next b q room e t n k h =
-    let o = accepted-read-opens b q room t n in
+    let o = accepted-read-opens b q room t n .tag k h in
     let p = pieceOf (b .settings .reads) q k in
     let v = piece-within (b .settings .reads) (q .start .0) (lengthOf q) k e h in
-    let z : p .first ≡ q .start .0 + placeOf (readBridge b q) (tagOf b k) = omega (arith, o .place k h, v .starts) in
-    o .next k h ∙ ap (λ (x : ℕ). lowerAddress (pcieOf (b .settings .windows) q x)) z
+    let z : p .first ≡ q .start .0 + placeOf (readBridge b q) (tagOf b k) = omega (arith, same-place o, v .starts) in
+    same-next o ∙ ap (λ (x : ℕ). lowerAddress (pcieOf (b .settings .windows) q x)) z
 
 -- a remainder that is moved on
 moves-on : (a n : ℕ) → (a % 128 + n) % 128 ≡ (a + n) % 128

@@ -5,14 +5,13 @@ use Rattle.tags.specs.Tags.{freeTags, without, lowestFew}
 use Rattle.machine.specs.State.{tagCount, tagAt, freeSlot}
 use Rattle.machine.specs.Memory.{piecesOf, pieceOf, piecePending, claimed, readBridge}
 use Rattle.machine.proofs.Refusals.{read-ok}
-use Rattle.bridge_laws.specs.MemoryLaws.{ReadOpensRows, AcceptedReadOpens}
+use Rattle.bridge_laws.specs.MemoryLaws.{AcceptedReadOpens}
 use Rattle.bridge_laws.specs.Rows.{pendingTag}
-use Rattle.bridge_laws.proofs.Parts.{same-missing, same-sent, same-owner, same-place, same-next, same-kind, same-state, same-size, same-pieces, same-fault, same-cause}
 use Rattle.bridge_laws.proofs.Verbs.{claimed-acts, claimed-alone, as-claimed}
 use Rattle.bridge_laws.proofs.Pieces.{opens-all, opens-slot}
 
-pub read-opens-rows : ReadOpensRows
-read-opens-rows b q room v e =
+pub accepted-read-opens : AcceptedReadOpens
+accepted-read-opens b q room v e =
     let k = freeSlot b in
     let ok = read-ok b q room e in
     let a = claimed-alone k q b in
@@ -26,22 +25,4 @@ read-opens-rows b q room v e =
           as-claimed k q b (λ s d. tagAt x (getD (freeTags tagCount (d .free)) i 0) ≡ pendingTag (d .ticks) (piecePending k s q (pieceOf (s .reads) q i)))
           (o .rows (c .tables) i l);
       slot = opens-slot o k ∙ c .slot;
-    }
-
-pub accepted-read-opens : AcceptedReadOpens
-accepted-read-opens b q room v e =
-    let r = read-opens-rows b q room v e in
-    record {
-      free = r .free;
-      missing = λ k l. same-missing (r .tag k l);
-      sent = λ k l. same-sent (r .tag k l);
-      owner = λ k l. same-owner (r .tag k l);
-      place = λ k l. same-place (r .tag k l);
-      next = λ k l. same-next (r .tag k l);
-      kind = λ k l. same-kind (r .tag k l);
-      state = same-state (r .slot);
-      size = same-size (r .slot);
-      pieces = same-pieces (r .slot);
-      fault = same-fault (r .slot);
-      cause = same-cause (r .slot);
     }

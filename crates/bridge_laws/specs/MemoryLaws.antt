@@ -124,7 +124,7 @@ AcceptedReadSends =
 
 -- what it leaves as it was: settings, registers, ticks, configuration slot; the rows of other slots, and of tags that are not
 -- free
-pub record KeepsRows (b c : Bridge) : Type 0 where
+pub record ReadKeeps (b c : Bridge) : Type 0 where
   pub settings : c .settings ≡ b .settings
   pub registers : c .core .registers ≡ b .core .registers
   pub ticks : c .core .ticks ≡ b .core .ticks
@@ -132,28 +132,6 @@ pub record KeepsRows (b c : Bridge) : Type 0 where
   pub slots : (k : ℕ) → k ≢ freeSlot b → slotAt c k ≡ slotAt b k
   pub free : (t : ℕ) → isSet (b .core .free) t ≡ false → isSet (c .core .free) t ≡ false
   pub tags : (t : ℕ) → isSet (b .core .free) t ≡ false → tagAt c t ≡ tagAt b t
-
-abbrev pub ReadKeepsRows : Type 0
-ReadKeepsRows = (b : Bridge) (q : Burst) (room : ℕ) → readRefusal b q room ≡ 0 → KeepsRows b (readBridge b q)
-
--- the same by columns
-pub record ReadKeeps (b c : Bridge) : Type 0 where
-  pub settings : c .settings ≡ b .settings
-  pub registers : c .core .registers ≡ b .core .registers
-  pub ticks : c .core .ticks ≡ b .core .ticks
-  pub config : c .core .config ≡ b .core .config
-  pub state : (k : ℕ) → (k ≡ freeSlot b → ⊥) → getD (c .state) k 0 ≡ getD (b .state) k 0
-  pub size : (k : ℕ) → (k ≡ freeSlot b → ⊥) → getD (c .size) k 0 ≡ getD (b .size) k 0
-  pub pieces : (k : ℕ) → (k ≡ freeSlot b → ⊥) → getD (c .pieces) k 0 ≡ getD (b .pieces) k 0
-  pub fault : (k : ℕ) → (k ≡ freeSlot b → ⊥) → getD (c .fault) k 0 ≡ getD (b .fault) k 0
-  pub cause : (k : ℕ) → (k ≡ freeSlot b → ⊥) → getD (c .cause) k 0 ≡ getD (b .cause) k 0
-  pub free : (t : ℕ) → isSet (b .core .free) t ≡ false → isSet (c .core .free) t ≡ false
-  pub missing : (t : ℕ) → isSet (b .core .free) t ≡ false → getD (c .missing) t 0 ≡ getD (b .missing) t 0
-  pub sent : (t : ℕ) → isSet (b .core .free) t ≡ false → getD (c .sent) t 0 ≡ getD (b .sent) t 0
-  pub owner : (t : ℕ) → isSet (b .core .free) t ≡ false → getD (c .owner) t 0 ≡ getD (b .owner) t 0
-  pub place : (t : ℕ) → isSet (b .core .free) t ≡ false → getD (c .place) t 0 ≡ getD (b .place) t 0
-  pub next : (t : ℕ) → isSet (b .core .free) t ≡ false → getD (c .next) t 0 ≡ getD (b .next) t 0
-  pub kind : (t : ℕ) → isSet (b .core .free) t ≡ false → getD (c .kind) t 0 ≡ getD (b .kind) t 0
 
 abbrev pub AcceptedReadKeeps : Type 0
 AcceptedReadKeeps = (b : Bridge) (q : Burst) (room : ℕ) → readRefusal b q room ≡ 0 → ReadKeeps b (readBridge b q)
@@ -173,37 +151,13 @@ pub record Tables (b : Bridge) : Type 0 where
   pub cause : length (b .cause) ≡ slotCount
 
 -- what an accepted read stores: each piece at its tag, the burst at its slot; the tags are no longer free
-pub record OpensRows (b : Bridge) (q : Burst) (c : Bridge) : Type 0 where
+pub record ReadOpens (b : Bridge) (q : Burst) (c : Bridge) : Type 0 where
   pub free : c .core .free ≡ without (b .core .free) (lowestFew tagCount (b .core .free) (piecesOf (b .settings .reads) q))
   pub tag :
       (k : ℕ) → k < piecesOf (b .settings .reads) q
       → tagAt c (tagOf b k)
       ≡ pendingTag (b .core .ticks) (piecePending (freeSlot b) (b .settings) q (pieceOf (b .settings .reads) q k))
   pub slot : slotAt c (freeSlot b) ≡ waitingSlot (lengthOf q) (piecesOf (b .settings .reads) q)
-
-abbrev pub ReadOpensRows : Type 0
-ReadOpensRows =
-    (b : Bridge) (q : Burst) (room : ℕ) → Tables b → readRefusal b q room ≡ 0 → OpensRows b q (readBridge b q)
-
--- the same by columns
-pub record ReadOpens (b : Bridge) (q : Burst) (c : Bridge) : Type 0 where
-  pub free : c .core .free ≡ without (b .core .free) (lowestFew tagCount (b .core .free) (piecesOf (b .settings .reads) q))
-  pub missing :
-      (k : ℕ) → k < piecesOf (b .settings .reads) q → getD (c .missing) (tagOf b k) 0 ≡ pieceOf (b .settings .reads) q k .length
-  pub sent : (k : ℕ) → k < piecesOf (b .settings .reads) q → getD (c .sent) (tagOf b k) 0 ≡ b .core .ticks
-  pub owner : (k : ℕ) → k < piecesOf (b .settings .reads) q → getD (c .owner) (tagOf b k) 0 ≡ freeSlot b
-  pub place :
-      (k : ℕ) → k < piecesOf (b .settings .reads) q
-      → getD (c .place) (tagOf b k) 0 ≡ placeIn q (pieceOf (b .settings .reads) q k)
-  pub next :
-      (k : ℕ) → k < piecesOf (b .settings .reads) q
-      → getD (c .next) (tagOf b k) 0 ≡ lowerAddress (pcieOf (b .settings .windows) q (pieceOf (b .settings .reads) q k .first))
-  pub kind : (k : ℕ) → k < piecesOf (b .settings .reads) q → getD (c .kind) (tagOf b k) 0 ≡ memoryRead
-  pub state : getD (c .state) (freeSlot b) 0 ≡ slotOpen
-  pub size : getD (c .size) (freeSlot b) 0 ≡ lengthOf q
-  pub pieces : getD (c .pieces) (freeSlot b) 0 ≡ piecesOf (b .settings .reads) q
-  pub fault : getD (c .fault) (freeSlot b) 0 ≡ slotSize
-  pub cause : getD (c .cause) (freeSlot b) 0 ≡ 0
 
 abbrev pub AcceptedReadOpens : Type 0
 AcceptedReadOpens =

@@ -45,30 +45,38 @@ pendingTag now p =
 
 -- ---- a slot
 
+-- a failure at a place is noted, where it is the least
+abbrev pub notedSlot : ℕ → ℕ → Slot → Slot
+notedSlot place code s =
+    record { state = s .state; size = s .size; pieces = s .pieces; fault = place; cause = code }
+
 abbrev pub faultedSlot : ℕ → ℕ → Slot → Slot
-faultedSlot place code s =
-    cond (ltb place (s .fault))
-    (record { state = s .state; size = s .size; pieces = s .pieces; fault = place; cause = code }) s
+faultedSlot place code s = cond (ltb place (s .fault)) (notedSlot place code s) s
 
 abbrev pub finishedSlot : Slot → Slot
 finishedSlot s =
     record { state = slotFinished; size = s .size; pieces = 0; fault = s .fault; cause = s .cause }
 
+abbrev pub fewerSlot : Slot → Slot
+fewerSlot s =
+    record { state = s .state; size = s .size; pieces = s .pieces - 1; fault = s .fault; cause = s .cause }
+
 -- a piece is closed, the last perhaps
 abbrev pub closedSlot : Slot → Slot
-closedSlot s =
-    cond (leb (s .pieces) 1) (finishedSlot s)
-    (record { state = s .state; size = s .size; pieces = s .pieces - 1; fault = s .fault; cause = s .cause })
+closedSlot s = cond (leb (s .pieces) 1) (finishedSlot s) (fewerSlot s)
 
 -- it waits for n bytes, in so many pieces
 abbrev pub waitingSlot : ℕ → ℕ → Slot
 waitingSlot n count =
     record { state = slotOpen; size = n; pieces = count; fault = slotSize; cause = okay }
 
+-- the link drops: an open read is finished as SLVERR
+abbrev pub lostSlot : Slot → Slot
+lostSlot s =
+    record { state = slotFinished; size = s .size; pieces = 0; fault = s .fault; cause = slverr }
+
 abbrev pub droppedSlot : Slot → Slot
-droppedSlot s =
-    cond (eqb (s .state) slotOpen)
-    (record { state = slotFinished; size = s .size; pieces = 0; fault = s .fault; cause = slverr }) s
+droppedSlot s = cond (eqb (s .state) slotOpen) (lostSlot s) s
 
 abbrev pub freedSlot : Slot → Slot
 freedSlot s =

@@ -30,10 +30,6 @@ openIn b k (suc n) = openIn b k n + cond (named b k n) 1 0
 abbrev pub piecesIn : Bridge → ℕ → ℕ
 piecesIn b k = cond (eqb (stateOf b k) 1) (cond (ltb k 8) (getD (b .pieces) k 0) 1) 0
 
--- the columns have an entry for each tag and each slot: `Tables`, by another name
-abbrev pub Sizes : Bridge → Type 0
-Sizes b = Tables b
-
 -- an open tag is not free, its missing bytes lie in its slot's burst, and it is not yet as old as the time limit
 pub record OpenTag (b : Bridge) (t : ℕ) : Type 0 where
   pub used : isSet (b .core .free) t ≡ false

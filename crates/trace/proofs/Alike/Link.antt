@@ -11,7 +11,7 @@ use borrow.Author.Tests.{eqb-true, eqb-false, le-ltb}
 use Rattle.machine.specs.State.{Slot, tagAt, slotAt, slotState, tagCount, slotCount, slotSize, slotFinished, slverr, coreIn}
 use Rattle.machine.specs.Completions.{storeSize, Held, held, zeroed, configDone}
 use Rattle.machine.specs.Ticks.{linkIn, dropSlots, linkLost, linked}
-use Rattle.bridge_laws.specs.Rows.{droppedStore}
+use Rattle.bridge_laws.specs.Rows.{droppedStore, lostSlot}
 use Rattle.bridge_laws.specs.Effects.{Lost}
 use Rattle.bridge_laws.proofs.Effects.{drop-loses}
 use Rattle.bridge_laws.proofs.Parts.{same-missing}
@@ -33,7 +33,7 @@ lost-twin {h} {g} {x} {y} p a b =
     (raised-cores (link-cores (free-cores (config-cores c (drop-like (λ z. configDone z slverr 0) (c .config))) (λ w. 2 ^ tagCount - 1)) false) 0)
     (λ t. unused (same-missing (a .tag t)) (same-missing (b .tag t)))
     (λ k l. like-of (a .slot k l) (b .slot k l)
-    (drop-like (λ s. record { state = slotFinished; size = s .size; pieces = 0; fault = s .fault; cause = slverr }) (p .twin .slots k l)))
+    (drop-like lostSlot (p .twin .slots k l)))
     (a .tables) (b .tables)
 
 -- ---- the stores: a read that was open is zero in both
@@ -90,7 +90,7 @@ module _ {h g : Held} (p : Pair h g) where
       }
     where
       shown : (k : ℕ) → k < slotCount → Drops slotCount → (z : Bool) → eqb (slotState (h .bridge) k) 1 ≡ z → {gap : ℕ → Type 0}
-          → Shown k (cond z (record { state = 2; size = slotAt (h .bridge) k .size; pieces = 0; fault = slotAt (h .bridge) k .fault; cause = slverr }) (slotAt (h .bridge) k))
+          → Shown k (cond z (lostSlot (slotAt (h .bridge) k)) (slotAt (h .bridge) k))
           gap (after h slotCount) (after g slotCount)
       shown k l s true z = record { done = λ f. s .zeroes k l (eqb-true _ _ z); part = λ f. absurd (omega arith) }
       shown k l s false z = record { done = λ f i m. s .stores .kept (slotSize * k + i) (p .bytes k l .done f i m); part = λ f. absurd (eqb-false _ _ z f) }

@@ -13,7 +13,7 @@ use lib.Seq.{paste}
 use Rattle.parts.specs.declared.Core.{Core}
 use Rattle.machine.specs.State.{Bridge, Tag, Slot, tagAt, slotAt, missingOf, ownerOf, placeOf, Open, slotCount, slotSize, okay, slotState, openPieces, tagCount}
 use Rattle.machine.specs.Completions.{Held, held, usefulBytes, configAnswer, configCompleted}
-use Rattle.bridge_laws.specs.Rows.{faultedSlot, closedSlot, closedStore, countedTag, shutTag}
+use Rattle.bridge_laws.specs.Rows.{faultedSlot, closedSlot, closedStore, countedTag, shutTag, notedSlot}
 use Rattle.bridge_laws.specs.Effects.{Acts, same, Serves, good-part, good-last, poison-part, poison-last, fails}
 use Rattle.bridge_laws.proofs.Parts.{same-place, same-owner}
 use Rattle.trace.proofs.Alike.Twin.{equal, unused, like-equal, Cores, tag-same, like-number, config-cores, freed-cores, raised-cores}
@@ -37,10 +37,10 @@ cause-not-okay Timeout e = absurd (omega arith)
 
 -- a failure is noted if it is the first in address order
 faulted-by : (P : Slot → Type 0) (place code : ℕ) (s : Slot)
-    → P (record { state = s .state; size = s .size; pieces = s .pieces; fault = place; cause = code }) → (s .fault ≤ place → P s) → P (faultedSlot place code s)
+    → P (notedSlot place code s) → (s .fault ≤ place → P s) → P (faultedSlot place code s)
 faulted-by P place code s yes' no' = by (ltb place (s .fault)) refl
   where
-    by : (z : Bool) → ltb place (s .fault) ≡ z → P (cond z (record { state = s .state; size = s .size; pieces = s .pieces; fault = place; cause = code }) s)
+    by : (z : Bool) → ltb place (s .fault) ≡ z → P (cond z (notedSlot place code s) s)
     by true e = yes'
     by false e = no' (ltb-false place (s .fault) e)
 

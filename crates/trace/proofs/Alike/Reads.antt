@@ -34,6 +34,7 @@ use Rattle.bridge_laws.specs.MemoryLaws.{tagOf, ReadKeeps, ReadOpens}
 use Rattle.bridge_laws.specs.Rows.{waitingSlot, takenCore, pendingTag}
 use Rattle.bridge_laws.specs.Effects.{Acts, same}
 use Rattle.bridge_laws.proofs.Effects.{opened-acts, claimed-acts, routed-acts, released-acts}
+use Rattle.bridge_laws.proofs.Parts.{same-missing, same-owner, same-place, same-state, same-size}
 use Rattle.bridge_laws.proofs.Kept.{accepted-read-keeps}
 use Rattle.bridge_laws.proofs.Stored.{accepted-read-opens}
 use Rattle.bridge_laws.proofs.BothTurns.{each-piece-both}
@@ -115,30 +116,28 @@ module _ {h g : Held} (q : Burst) (room : ℕ) (v : Sound h) (p : Pair h g) (ok 
   new-gap i l =
       let f = piece-of (b .settings .reads) (q .start .0) (lengthOf q) i (limit-words (b .settings .reads) (accepted-reads (b .settings) (v .right)) .0) l in
       let j = (q .start .0 + i) / b .settings .reads - q .start .0 / b .settings .reads in
-      let m = opens .missing j (f .low) in
-      let w = opens .place j (f .low) in
+      let r = opens .tag j (f .low) in
+      let m = same-missing r in
+      let w = same-place r in
       record {
         tag = tagOf b j;
         opened = λ e. absurd (omega (arith, m, e, f .from, f .to));
-        owner = opens .owner j (f .low);
+        owner = same-owner r;
         from = omega (arith, w, f .starts, f .from);
         to = omega (arith, w, m, f .starts, f .to);
       }
 
   new-slot : Shown (freeSlot b) (slotAt (readBridge b q) (freeSlot b)) (Gap (tagAt (readBridge b q)) (freeSlot b)) (h .store) (g .store)
   new-slot = record {
-    done = λ a. absurd (omega (arith, a, opens .state));
-    part = λ a e i l. inr (new-gap i (omega (arith, l, opens .size)));
+    done = λ a. absurd (omega (arith, a, same-state (opens .slot)));
+    part = λ a e i l. inr (new-gap i (omega (arith, l, same-size (opens .slot))));
   }
 
   -- any other
-  old-row : (t : ℕ) → isSet (b .core .free) t ≡ false → tagAt (readBridge b q) t ≡ tagAt b t
-  old-row t u = rw (keeps .missing t u, keeps .sent t u, keeps .owner t u, keeps .place t u, keeps .next t u, keeps .kind t u)
-
   old-slot : (j : ℕ) → j < slotCount → j ≢ freeSlot b → Shown j (slotAt (readBridge b q) j) (Gap (tagAt (readBridge b q)) j) (h .store) (g .store)
   old-slot j l n =
-      rw (keeps .state j n, keeps .size j n, keeps .pieces j n, keeps .fault j n, keeps .cause j n)
-      (shown-still still (λ i f. inr (gap-of f (old-row (f .tag) (v .tags (f .tag) (f .opened) .used)))) (p .bytes j l))
+      subst (λ s. Shown j s (Gap (tagAt (readBridge b q)) j) (h .store) (g .store)) (sym (keeps .slots j n))
+      (shown-still still (λ i f. inr (gap-of f (keeps .tags (f .tag) (v .tags (f .tag) (f .opened) .used)))) (p .bytes j l))
 
   pub read-pair : Pair (held (readBridge (h .bridge) q) (h .store)) (held (readBridge (g .bridge) q) (g .store))
   read-pair = record { twin = read-twin q (p .twin) room ok; early = p .early; late = p .late; bytes = λ j l. by j l (ℕ-discrete j (freeSlot b)) }

@@ -14,7 +14,7 @@ use borrow.Author.Tests.{eqb-true, leb-true}
 use Rattle.parts.specs.declared.Core.{Core}
 use Rattle.machine.specs.State.{Tag, Slot, tagAt, slotAt, missingOf, ownerOf, Open, coreIn, tagCount, slotCount, slotSize, okay}
 use Rattle.machine.specs.Completions.{storeSize, Held, held, zeroed}
-use Rattle.bridge_laws.specs.Rows.{finishedSlot, closedSlot, closedStore}
+use Rattle.bridge_laws.specs.Rows.{finishedSlot, closedSlot, closedStore, fewerSlot}
 use Rattle.bridge_laws.specs.Effects.{Acts}
 use Rattle.bridge_laws.proofs.Effects.{core-acts}
 use Rattle.trace.proofs.Soundness.Fine.{entry-below}
@@ -137,7 +137,7 @@ closed-shown {k} {d} {e} {gap} r s p last = by (leb (s .pieces) 1) (eqb (s .caus
 
     by : (z w : Bool) → leb (s .pieces) 1 ≡ z → eqb (s .cause) okay ≡ w
         → Still d e (stored z w d) (stored z w e)
-        × Shown k (cond z (finishedSlot s) (record { state = s .state; size = s .size; pieces = s .pieces - 1; fault = s .fault; cause = s .cause })) gap (stored z w d) (stored z w e)
+        × Shown k (cond z (finishedSlot s) (fewerSlot s)) gap (stored z w d) (stored z w e)
     by true true z w = (still, record { done = λ a. last (leb-true _ _ z) (eqb-true _ _ w); part = λ a. absurd (omega arith) })
     by true false z w =
         (zeroed-still r (min (s .size) slotSize) (omega arith), record { done = λ a. zeroed-same r (min (s .size) slotSize) (omega arith); part = λ a. absurd (omega arith) })

@@ -18,7 +18,7 @@ use Rattle.machine.specs.Completions.{storeSize, Held, held, configDone}
 use Rattle.machine.specs.Ticks.{nextTick, ageOf, isOld, ticked}
 use Rattle.machine.specs.Take.{stateOf}
 use Rattle.machine.proofs.Judging.{open-room}
-use Rattle.bridge_laws.specs.Rows.{shutTag, finishedSlot, faultedSlot, closedSlot, closedStore}
+use Rattle.bridge_laws.specs.Rows.{shutTag, finishedSlot, faultedSlot, closedSlot, closedStore, fewerSlot}
 use Rattle.bridge_laws.specs.Effects.{Acts, Expires, memory, config}
 use Rattle.bridge_laws.proofs.Effects.{timed-out-expires}
 use Rattle.bridge_laws.proofs.Parts.{same-missing, same-owner}
@@ -40,7 +40,7 @@ pub record Ready (b : Bridge) (t : ℕ) : Type 0 where
 closed-failable : (s : Slot) → Failable s → Failable (closedSlot s)
 closed-failable s f = by (leb (s .pieces) 1)
   where
-    by : (z : Bool) → Failable (cond z (finishedSlot s) (record { state = s .state; size = s .size; pieces = s .pieces - 1; fault = s .fault; cause = s .cause }))
+    by : (z : Bool) → Failable (cond z (finishedSlot s) (fewerSlot s))
     by true = record { used = λ z. omega arith; marked = f .marked }
     by false = record { used = f .used; marked = f .marked }
 

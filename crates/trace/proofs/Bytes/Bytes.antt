@@ -22,6 +22,7 @@ use Rattle.machine.specs.Take.{stateOf, takeRefusal, looked, releaseStep}
 use Rattle.machine.proofs.Refusals.{read-ok}
 use Rattle.bridge_laws.specs.MemoryLaws.{tagOf}
 use Rattle.bridge_laws.proofs.TakeLaws.{passed, look-at-slot}
+use Rattle.bridge_laws.proofs.Parts.{same-missing, same-owner, same-place, same-state, same-size, same-fault, same-cause}
 use Rattle.trace.specs.Events.{Event, call, read, step, run, start}
 use Rattle.trace.specs.FarSide.{Ask, askOf, bytesSent, Answers, Wire, sending, wireAfter, AllAnswered}
 use Rattle.trace.specs.Claims.{AnsweredOkay, sentFor, Bytes}
@@ -36,7 +37,7 @@ use Rattle.trace.proofs.Tags.Wired.{step-wired, reach-start}
 use Rattle.trace.proofs.Bytes.Joined.{joined}
 use Rattle.trace.proofs.Bytes.Put.{either}
 use Rattle.trace.proofs.Bytes.Stage.{Read, count, piece, place, part, inside, Waits, waits-same, Mine, Whole, Stage, spoilt, clean}
-use Rattle.trace.proofs.Bytes.Passing.{tables, Row, read-rows}
+use Rattle.trace.proofs.Bytes.Passing.{Row, read-rows}
 use Rattle.trace.proofs.Bytes.Reading.{waits-open, run-stage}
 
 -- ---- the read is accepted
@@ -65,7 +66,8 @@ module _ (sent : ℕ → List (List ℕ)) (h : Held) (q : Burst) (room : ℕ) (s
   waits-at : (j : ℕ) → j < count taken → Waits (freeSlot (h .bridge)) x (tagOf (h .bridge) j)
   waits-at j g =
       let some = accepted-covers q (read-ok (h .bridge) q room e .burst) .some in
-      (λ y. omega (arith, opens-read sent h q room s e .missing j g, piece-not-empty (h .bridge .settings .reads) (q .start .0) (lengthOf q) j (taken .some) some g), opens-read sent h q room s e .owner j g)
+      let r = opens-read sent h q room s e .tag j g in
+      (λ y. omega (arith, same-missing r, piece-not-empty (h .bridge .settings .reads) (q .start .0) (lengthOf q) j (taken .some) some g), same-owner r)
 
   own-at : (j : ℕ) → j < count taken → ownOf (z .live) (tagOf (h .bridge) j) ≡ w .count + j
   own-at j g =
@@ -77,14 +79,14 @@ module _ (sent : ℕ → List (List ℕ)) (h : Held) (q : Burst) (room : ℕ) (s
     mine-at : (j : ℕ) → j < count taken → Mine taken (h .store) es (ownOf (z .live) (tagOf (h .bridge) j)) (tagAt x (tagOf (h .bridge) j)) j
     mine-at j g =
         let b = h .bridge in
-        let o = opens-read sent h q room s e in
+        let o = opens-read sent h q room s e .tag j g in
         let y : Answers (askOf b q j .wanted) (sent (w .count + j)) = rw (turn-is b q j g) at (answered-at sent (turns b q) (w .count) j a (omega (arith, turns-many b q))) in
         record {
           own = own-at j g;
           next = pcieOf (b .settings .windows) q (piece taken j .first);
-          flow = rw (o .missing j g) (record { got = []; rest = sent (w .count + j); size = omega arith; bytes = refl; sends = y; comes = v .labels .future (w .count + j) (omega arith) });
-          ends = omega (arith, o .place j g, o .missing j g);
-          bytes = λ y l. absurd (omega (arith, o .place j g));
+          flow = rw (same-missing o) (record { got = []; rest = sent (w .count + j); size = omega arith; bytes = refl; sends = y; comes = v .labels .future (w .count + j) (omega arith) });
+          ends = omega (arith, same-place o, same-missing o);
+          bytes = λ y l. absurd (omega (arith, same-place o));
         }
 
     -- and no other tag waits
@@ -94,10 +96,10 @@ module _ (sent : ℕ → List (List ℕ)) (h : Held) (q : Burst) (room : ℕ) (s
 
     begins : Stage taken (held x (h .store)) z es
     begins =
-        let o = opens-read sent h q room s e in
+        let o = opens-read sent h q room s e .slot in
         clean (record {
-          slot = record { used = λ y. omega (arith, o .state); cause = o .cause; fault = o .fault; size = o .size };
-          mine = λ t m. mines t m (read-rows (h .bridge) q room (tables s) e .tags t);
+          slot = record { used = λ y. omega (arith, same-state o); cause = same-cause o; fault = same-fault o; size = same-size o };
+          mine = λ t m. mines t m (read-rows (h .bridge) q room (s .sizes) e .tags t);
           whole = λ j g n. absurd (n (tagOf (h .bridge) j) (waits-at j g) (own-at j g));
         })
 

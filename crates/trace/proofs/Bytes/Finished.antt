@@ -33,7 +33,7 @@ use Rattle.trace.proofs.Soundness.Fine.{state-below, owner-open, owner-
 use Rattle.trace.proofs.Soundness.Sound.{sound-step, run-sound, fine-of}
 use Rattle.trace.proofs.Tags.Comes.{open-missing}
 use Rattle.trace.proofs.Tags.Opened.{free-slot-free}
-use Rattle.trace.proofs.Bytes.Passing.{tables, read-rows}
+use Rattle.trace.proofs.Bytes.Passing.{read-rows}
 use Rattle.trace.proofs.Bytes.Reading.{release-other}
 
 -- ---- states
@@ -82,19 +82,19 @@ module _ (k : ℕ) (h : Held) (g : Sound h) (done : stateOf (h .bridge) k ≡ 2)
   release-answer : (j : ℕ) → k ≢ j → takeRefusal (h .bridge) (length (h .store)) j ≡ 0 → AnswerSame k h (held (slotFreed j (h .bridge)) (h .store))
   release-answer j n r =
       let x = slotFreed j (h .bridge) in
-      let a = released-acts 0 j (h .bridge) (tables g) in
+      let a = released-acts 0 j (h .bridge) (g .sizes) in
       by-cases (decLt j 8) (λ l. row-answer k h x (λ m. a .0 l .slots k n) (λ e. ap (λ (c : Core). c .config) (a .0 l .core)))
       (λ l. row-answer k h x (λ m. a .1 (omega arith) .slots k n) (λ e. absurd (n (omega (arith, in-range (h .bridge) j (finished-of j h r))))))
 
   call-answer : (c : Call) (x : Held) → Move h (call c) x → takes k h (call c) ≡ false → AnswerSame k h x
   call-answer c x (idle r a l) u = row-answer k h (x .bridge) (λ l. refl) (λ e. refl)
   call-answer c x (reads {q = q} {room = room} f) u =
-      row-answer k h (x .bridge) (λ l. read-rows (h .bridge) q room (tables g) f .slots k (λ z. omega (arith, ap (λ (j : ℕ). getD (h .bridge .state) j 0) z, free-slot-free h q room g f, state-below (h .bridge) k l)))
+      row-answer k h (x .bridge) (λ l. read-rows (h .bridge) q room (g .sizes) f .slots k (λ z. omega (arith, ap (λ (j : ℕ). getD (h .bridge .state) j 0) z, free-slot-free h q room g f, state-below (h .bridge) k l)))
       (λ e. accepted-read-keeps (h .bridge) q room f .config)
   call-answer c x (locals {a = a} {room = room} w f r) u = row-answer k h (x .bridge) (λ l. refl) (λ e. busy e (passed (h .bridge .core) (routeOf (h .bridge) a) room f .free))
   call-answer c x (routes {a = a} {room = room} f o) u =
       let p = passed (h .bridge .core) (routeOf (h .bridge) a) room f in
-      row-answer k h (x .bridge) (λ l. routed-acts (h .bridge) a k (tables g) (p .tag o) .slot) (λ e. busy e (p .free))
+      row-answer k h (x .bridge) (λ l. routed-acts (h .bridge) a k (g .sizes) (p .tag o) .slot) (λ e. busy e (p .free))
   call-answer c x (releases {k = j} r) u = release-answer j (release-other k j h u r) r
 
   event-answer : (e : Event) → takes k h e ≡ false → AnswerSame k h (step h e .after)

@@ -46,9 +46,6 @@ use Rattle.trace.proofs.Tags.Opened.{turns, turns-many, turn-is, free-s
 use Rattle.trace.proofs.Bytes.Put.{apart, only-none, only-then, put-only, closed-only}
 use Rattle.trace.proofs.Bytes.Stage.{Waits, waits-same, BytesSame, Read, Aside}
 
-pub tables : {h : Held} → Sound h → Tables (h .bridge)
-tables s = omega (arith, s .sizes)
-
 -- slot k, when its piece of tag t has failed
 abbrev failedIn : Bridge → ℕ → ℕ → Cause → Slot
 failedIn b k t why = faultedSlot (placeOf b t) (causeResponse why) (slotAt b k)
@@ -168,7 +165,7 @@ module _ (r : Read) (h : Held) (w : Wire) where
     pub release-aside : (j : ℕ) → r .slot ≢ j → Aside r h (held (slotFreed j (h .bridge)) (h .store)) w w
     release-aside j n =
         let b = h .bridge in
-        let v = tables s in
+        let v = s .sizes in
         by-cases (decLt j 8) (λ l. same-rows (slotFreed j b) (released-acts 0 j b v .0 l .slots (r .slot) n) (λ t. released-acts t j b v .0 l .tag))
         (λ l. same-rows (slotFreed j b) (released-acts 0 j b v .1 (omega arith) .slots (r .slot) n) (λ t. released-acts t j b v .1 (omega arith) .tag))
 
@@ -180,7 +177,7 @@ module _ (r : Read) (h : Held) (w : Wire) where
     read-aside q room e used =
         let b = h .bridge in
         let x = readBridge b q in
-        let p = read-rows b q room (tables s) e in
+        let p = read-rows b q room (s .sizes) e in
         let elsewhere : r .slot ≢ freeSlot b = λ z. used (ap (λ (y : ℕ). getD (b .state) y 0) z ∙ free-slot-free h q room s e) in
         let taken : (t : ℕ) → Waits (r .slot) b t → (j : ℕ) → j < piecesOf (b .settings .reads) q → tagOf b j ≢ t = λ t m j l. not-free t (tagOf b j) (sends-read (r .sent) h q room s e .free j l .free) m in
         record {
@@ -189,13 +186,13 @@ module _ (r : Read) (h : Held) (w : Wire) where
           tags = λ t m. ⊎-elim (λ z. z) (λ o. absurd (taken t m (o .0) (o .1) (o .2))) (p .tags t);
           own = λ t m. own-kept (turns b q) w t (λ j l. let i : j < piecesOf (b .settings .reads) q = omega (arith, turns-many b q) in rw (turn-is b q j i) (taken t m j i));
           back = λ t m. ⊎-elim (λ z. waits-same (r .slot) x b t (sym z) m)
-              (λ o. absurd (elsewhere (sym (m .1) ∙ (ap (ownerOf x) (sym (o .2)) ∙ opens-read (r .sent) h q room s e .owner (o .0) (o .1))))) (p .tags t);
+              (λ o. absurd (elsewhere (sym (m .1) ∙ (ap (ownerOf x) (sym (o .2)) ∙ same-owner (opens-read (r .sent) h q room s e .tag (o .0) (o .1)))))) (p .tags t);
         }
 
     pub word-aside : (a : Access) (room : ℕ) → configRefusal (h .bridge) a room ≡ 0 → goesOut (routeOf (h .bridge) a) ≡ true → Aside r h (held (routedBridge (h .bridge) a) (h .store)) w (sending w (wordAsk (h .bridge) a))
     word-aside a room e o =
         let some = passed (h .bridge .core) (routeOf (h .bridge) a) room e .tag o in
-        let p = routed-acts (h .bridge) a (r .slot) (tables s) some in
+        let p = routed-acts (h .bridge) a (r .slot) (s .sizes) some in
         let free = lowest-is tagCount (h .bridge .core .free) some .tag .free in
         other-tag (held (routedBridge (h .bridge) a) (h .store)) p (p .slot) (sending w (wordAsk (h .bridge) a)) (λ y l. refl)
         (λ u m. own-kept (wordAsk (h .bridge) a) w u (λ j l. let z : j ≡ 0 = omega arith in rw z (not-free u (lowest tagCount (h .bridge .core .free)) free m)))

@@ -35,7 +35,7 @@ use Rattle.trace.proofs.Tags.Opened.{asked-read, asked-word}
 use Rattle.trace.proofs.Tags.Wired.{idle-wire, local-asks, step-wired}
 use Rattle.trace.proofs.Bytes.Stage.{Spoilt, open-dropped, Waits, BytesSame, Read, Stage, spoilt, stage-used, Aside, stage-stays}
 use Rattle.trace.proofs.Bytes.Receiving.{receives, lapses}
-use Rattle.trace.proofs.Bytes.Passing.{tables, still, quiet, other-slot, expires-aside, expires-sizes, serves-aside, release-aside, read-aside, word-aside}
+use Rattle.trace.proofs.Bytes.Passing.{still, quiet, other-slot, expires-aside, expires-sizes, serves-aside, release-aside, read-aside, word-aside}
 
 -- where a tag is open for slot k, a read is
 pub waits-open : {h : Held} (k t : ℕ) → Sound h → k < 8 → Waits k (h .bridge) t → getD (h .bridge .state) k 0 ≡ 1
@@ -102,20 +102,20 @@ module _ (r : Read) where
   move-stage h e x (memories {i = label} {s = s} c t f d o l j n) eq w es g y p u v =
       let k = ownerOf (h .bridge) (c .tag) in
       let m = open-missing (missingOf (h .bridge) (c .tag)) (placeOf (h .bridge) (c .tag)) o in
-      let a = memory-serves h (c .tag) k (c .lower % 4) (drop 12 s) t (tables g) (tag-below (h .bridge) (c .tag) (g .sizes) m) l n in
+      let a = memory-serves h (c .tag) k (c .lower % 4) (drop 12 s) t (g .sizes) (tag-below (h .bridge) (c .tag) (g .sizes) m) l n in
       by-cases (ℕ-discrete k (r .slot))
       (λ z. receives r h w es s c f g (m, z) t x j (subst (λ (k : ℕ). Serves (c .tag) k (c .lower % 4) (drop 12 s) h x t) z a)
       (subst (λ (i : ℕ). Stage r h w (event.completion i s ∷ es)) (own-comes (r .sent) h w label s c es y p f m) v))
       (λ z. pass (serves-aside r h w s c f g m k l refl z t x j a) v)
   move-stage h e x (configs {s = s} c t f d o l j n) eq w es g y p u v =
       let m = open-missing (missingOf (h .bridge) (c .tag)) (placeOf (h .bridge) (c .tag)) o in
-      let a = config-serves (h .bridge) (c .tag) (r .slot) (drop 12 s) t (tables g) (tag-below (h .bridge) (c .tag) (g .sizes) m) in
+      let a = config-serves (h .bridge) (c .tag) (r .slot) (drop 12 s) t (g .sizes) (tag-below (h .bridge) (c .tag) (g .sizes) m) in
       pass (other-slot r h w x a (a .slot) (λ z. omega (arith, r .small)) (same-owner (a .tag)) (λ i k. refl)) v
   move-stage h e x ticks eq w es g y p u v =
       let now = held (coreIn (withTicks (nextTick (h .bridge .core .ticks)) (h .bridge .core)) (h .bridge)) (h .store) in
       each-tag (λ n. Lasts w es) now (record { stage = pass (still r h w _) v; sizes = (omega (arith, g .sizes), g .room) }) (λ n x m o y. y)
       (λ n x m o y. lapse w es n x (timedOut n x) o (timed-out-expires x n (y .sizes .0) m) y) .stage
-  move-stage h e x (drops l) eq w es g y p u v = drop-stage h x w (wireAfter w h (event.link false)) es g (drop-loses h (tables g)) eq v
+  move-stage h e x (drops l) eq w es g y p u v = drop-stage h x w (wireAfter w h (event.link false)) es g (drop-loses h (g .sizes)) eq v
   move-stage h e x (links up o) eq w es g y p u v = link-stage h up _ w es g o v
   move-stage h e x (releases {k = j} d) eq w es g y p u v = pass (release-aside r h w g j (release-other (r .slot) j h u d)) v
 

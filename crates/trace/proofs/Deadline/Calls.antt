@@ -36,7 +36,7 @@ use Rattle.trace.specs.Sound.{Sound}
 use Rattle.trace.proofs.Soundness.View.{Move, idle, reads, locals, routes, releases}
 use Rattle.trace.proofs.Soundness.Fine.{state-below, state-above, state-config, owner-open, tag-below}
 use Rattle.trace.proofs.Soundness.Sound.{fine-of, sound-step}
-use Rattle.trace.proofs.Tags.Opened.{tables-of, free-slot-free}
+use Rattle.trace.proofs.Tags.Opened.{free-slot-free}
 use Rattle.trace.proofs.Deadline.Spares.{OpenRow, OpenFor, Spares, core-spares, acts-spares, still}
 
 -- slots in different states are different
@@ -75,7 +75,7 @@ module _ (h : Held) (q : Burst) (room : ℕ) (v : Sound h) (e : readRefusal (h .
   keeps = accepted-read-keeps b q room e
 
   pub opens : ReadOpens b q x
-  opens = accepted-read-opens b q room (tables-of b (v .sizes)) e
+  opens = accepted-read-opens b q room (v .sizes) e
 
   read-free : stateOf b (freeSlot b) ≡ 0
   read-free = state-below b (freeSlot b) (read-ok b q room e .slot) ∙ free-slot-free h q room v e
@@ -101,10 +101,9 @@ module _ (h : Held) (q : Burst) (room : ℕ) (v : Sound h) (e : readRefusal (h .
       by : (z : Bool) → isSet (b .core .free) t ≡ z → (ownerOf x t ≡ freeSlot b → Own t) × (ownerOf x t ≢ freeSlot b → tagAt x t ≡ tagAt b t)
       by true z =
           let (j, l, y) = taken t (record { below = tag-below x t (read-sound .sizes) o; free = z }) (read-sound .tags t o .used) in
-          (λ i. (j, l, y), λ d. absurd (d (ap (ownerOf x) y ∙ opens .owner j l)))
+          (λ i. (j, l, y), λ d. absurd (d (ap (ownerOf x) y ∙ same-owner (opens .tag j l))))
       by false z =
-          let k = keeps in
-          let r : tagAt x t ≡ tagAt b t = rw (k .missing t z, k .sent t z, k .owner t z, k .place t z, k .next t z, k .kind t z) in
+          let r = keeps .tags t z in
           (λ i. absurd (none-open h (freeSlot b) t v read-free (subst (OpenRow (freeSlot b)) r (o, i))), λ d. r)
 
   pub read-newer : (t : ℕ) → OpenFor x (freeSlot b) t → Own t
@@ -117,7 +116,7 @@ module _ (h : Held) (q : Burst) (room : ℕ) (v : Sound h) (e : readRefusal (h .
       record {
         settings = p .settings;
         ticks = still b x (v .clock) (p .ticks);
-        slot = rw (p .state k d, p .size k d, p .pieces k d, p .fault k d, p .cause k d);
+        slot = p .slots k d;
         config = λ z. p .config;
         tags = λ t r. read-view t (r .0) .1 (λ z. d (sym (r .1) ∙ z));
       }
@@ -132,7 +131,7 @@ module _ (h : Held) (a : Access) (room : ℕ) (v : Sound h) (e : configRefusal (
     pub routes-acts : (k : ℕ)
         → Acts (lowest tagCount (h .bridge .core .free)) k (λ o. pendingTag (h .bridge .core .ticks) (wordPending (a .write))) same
         (λ c. takenCore (withConfig (openConfig (a .write)) c)) (h .bridge) (routedBridge (h .bridge) a)
-    routes-acts k = routed-acts (h .bridge) a k (tables-of (h .bridge) (v .sizes)) (passed (h .bridge .core) (routeOf (h .bridge) a) room e .tag g)
+    routes-acts k = routed-acts (h .bridge) a k (v .sizes) (passed (h .bridge .core) (routeOf (h .bridge) a) room e .tag g)
 
     routed-spares : (k : ℕ) → stateOf (h .bridge) k ≡ 1 → Spares 0 k (h .bridge) (routedBridge (h .bridge) a)
     routed-spares k o =
@@ -160,9 +159,9 @@ release-spares h k j v e o = by (decLt j 8)
     d = apart (h .bridge) k j o done (λ z. omega arith)
 
     by : Dec (j < 8) → Spares 0 k (h .bridge) (slotFreed j (h .bridge))
-    by (yes l) = let p = released-acts 0 j (h .bridge) (tables-of (h .bridge) (v .sizes)) .0 l in acts-spares k p (v .clock) refl (λ n. refl) d (λ r. p .tag)
+    by (yes l) = let p = released-acts 0 j (h .bridge) (v .sizes) .0 l in acts-spares k p (v .clock) refl (λ n. refl) d (λ r. p .tag)
     by (no l) =
-        let p = released-acts 0 j (h .bridge) (tables-of (h .bridge) (v .sizes)) .1 (omega (arith, l)) in
+        let p = released-acts 0 j (h .bridge) (v .sizes) .1 (omega (arith, l)) in
         acts-spares k p (v .clock) refl (λ n. absurd (omega (arith, state-above (h .bridge) j (omega (arith, l, n)), done))) d (λ r. p .tag)
 
 -- ---- every call

@@ -22,7 +22,7 @@ use Rattle.machine.specs.Memory.{readRefusal, readBridge}
 use Rattle.machine.specs.Config.{Access, routeOf, goesOut, configRefusal, localBridge, routedBridge, configBridge, configStep}
 use Rattle.machine.proofs.Configs.{passed}
 use Rattle.machine.proofs.Refusals.{read-ok}
-use Rattle.bridge_laws.proofs.Parts.{same-sent}
+use Rattle.bridge_laws.proofs.Parts.{same-sent, same-state}
 use Rattle.bridge_laws.proofs.Cores.{local-core}
 use Rattle.trace.specs.Events as event
 use Rattle.trace.specs.Events.{Event, step, run, start}
@@ -155,8 +155,8 @@ read-waits h q room v e =
     let b = h .bridge in
     let x = readBridge b q in
     let p = opens h q room v e in
-    begins b (read-sound h q room v e) (keeps h q room v e .ticks) (state-below x (freeSlot b) (read-ok b q room e .slot) ∙ p .state)
-    (λ t o. let (j, l, z) = read-newer h q room v e t o in ap (sentOf x) z ∙ p .sent j l)
+    begins b (read-sound h q room v e) (keeps h q room v e .ticks) (state-below x (freeSlot b) (read-ok b q room e .slot) ∙ same-state (p .slot))
+    (λ t o. let (j, l, z) = read-newer h q room v e t o in ap (sentOf x) z ∙ same-sent (p .tag j l))
 
 pub read-deadline : ReadDeadline
 read-deadline s store l before q room later e t =

@@ -35,7 +35,6 @@ use Rattle.trace.proofs.Soundness.View.{Move, missed, memories, configs
 use Rattle.trace.proofs.Soundness.Fine.{Fine, state-config, owner-most, tag-below}
 use Rattle.trace.proofs.Tags.Comes.{open-missing}
 use Rattle.trace.proofs.Soundness.Sound.{fine-of}
-use Rattle.trace.proofs.Tags.Opened.{tables-of}
 use Rattle.trace.proofs.Deadline.Spares.{acts-spares, OpenRow, OpenFor, Busy, Goes, Spares, state-by, state-same, goes-then, spares-then, core-spares, spares-goes, still}
 use Rattle.trace.proofs.Deadline.Calls.{call-spares}
 
@@ -135,11 +134,11 @@ module _ (h : Held) (t : ℕ) (v : Sound h) (o : Open (h .bridge) t) where
   pub serving : (skip : ℕ) (payload : List ℕ) (u : Verdict) → ownerOf (h .bridge) t < 8 → isUnexpected u ≡ false
       → Serves t (ownerOf (h .bridge) t) skip payload h (memoryCompleted h t (ownerOf (h .bridge) t) skip payload u) u
   serving skip payload u l f =
-      memory-serves h t (ownerOf (h .bridge) t) skip payload u (tables-of (h .bridge) (v .sizes)) (tag-below (h .bridge) t (v .sizes) o) l f
+      memory-serves h t (ownerOf (h .bridge) t) skip payload u (v .sizes) (tag-below (h .bridge) t (v .sizes) o) l f
 
   pub answering : (payload : List ℕ) (u : Verdict) (k : ℕ)
       → Acts t k shutTag same (λ c. freedCore t (withConfig (configAnswer (c .config) payload u) c)) (h .bridge) (configCompleted (h .bridge) t payload u)
-  answering payload u k = config-serves (h .bridge) t k payload u (tables-of (h .bridge) (v .sizes)) (tag-below (h .bridge) t (v .sizes) o)
+  answering payload u k = config-serves (h .bridge) t k payload u (v .sizes) (tag-below (h .bridge) t (v .sizes) o)
 
   pub answered : (payload : List ℕ) (u : Verdict) → 8 ≤ ownerOf (h .bridge) t → isUnexpected u ≡ false
       → Served t (ownerOf (h .bridge) t) (h .bridge) (configCompleted (h .bridge) t payload u)
@@ -234,10 +233,10 @@ module _ (k : ℕ) {h : Held} (v : Sound h) where
       served-goes k (answered h (c .tag) v o (drop 12 s) u w n) (v .clock) o
 
   pub tick-all : {x : Held} → Move h event.tick x → Ticked (h .bridge) (x .bridge)
-  tick-all ticks = all-ticked h (fine-of h v) (tables-of (h .bridge) (v .sizes))
+  tick-all ticks = all-ticked h (fine-of h v) (v .sizes)
 
   link-goes : {up : Bool} {x : Held} → Move h (event.link up) x → Goes 0 k (h .bridge) (x .bridge)
-  link-goes (drops l) = lost-goes k (drop-loses h (tables-of (h .bridge) (v .sizes))) (v .clock)
+  link-goes (drops l) = lost-goes k (drop-loses h (v .sizes)) (v .clock)
   link-goes (links up d) = spares-goes (core-spares k (h .bridge) (linkIn up (h .bridge .core)) (v .clock) refl (λ z. refl))
 
   move-goes : (e : Event) {x : Held} → Move h e x → stateOf (h .bridge) k ≡ 1 → Goes (isTick e) k (h .bridge) (x .bridge)

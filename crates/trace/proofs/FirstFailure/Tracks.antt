@@ -12,7 +12,7 @@ use Rattle.burst.proofs.Cut.{div-mono}
 use Rattle.verdict.specs.declared.Cause.{Cause}
 use Rattle.machine.specs.State.{Tag, Slot, slotFree, slotCount, slotSize, okay}
 use Rattle.machine.specs.Verdict.{causeResponse}
-use Rattle.bridge_laws.specs.Rows.{countedTag, faultedSlot, finishedSlot, closedSlot}
+use Rattle.bridge_laws.specs.Rows.{countedTag, faultedSlot, finishedSlot, closedSlot, fewerSlot, notedSlot}
 use Rattle.trace.specs.FirstFailure.{Failure, better, pieceAtPlace}
 
 -- ---- what becomes of a tag
@@ -50,7 +50,7 @@ left-same s = record { busy = λ n. n; fault = refl; cause = refl }
 pub left-closed : (s : Slot) → Left s (closedSlot s)
 left-closed s = go (leb (s .pieces) 1)
   where
-    go : (z : Bool) → Left s (cond z (finishedSlot s) (record { state = s .state; size = s .size; pieces = s .pieces - 1; fault = s .fault; cause = s .cause }))
+    go : (z : Bool) → Left s (cond z (finishedSlot s) (fewerSlot s))
     go true = record { busy = λ n e. omega arith; fault = refl; cause = refl }
     go false = record { busy = λ n. n; fault = refl; cause = refl }
 
@@ -115,7 +115,7 @@ module _ {l a k : ℕ} {o : Option Failure} {s : Slot} {r : ℕ → Tag} (v : Tr
 
     failed-by : (z : Bool)
         → Tracks l a k (cond z (some new) o)
-        (cond z (record { state = s .state; size = s .size; pieces = s .pieces; fault = r t .place; cause = causeResponse why }) s) r
+        (cond z (notedSlot (r t .place) (causeResponse why) s) s) r
     failed-by true = record {
       limit = v .limit;
       slot = v .slot;

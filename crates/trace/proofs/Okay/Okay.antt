@@ -19,7 +19,7 @@ use Rattle.machine.specs.Completions.{Held, held}
 use Rattle.machine.specs.Take.{stateOf, releaseStep}
 use Rattle.machine.proofs.Judging.{never}
 use Rattle.machine.proofs.Refusals.{read-ok}
-use Rattle.bridge_laws.proofs.Parts.{same-kind}
+use Rattle.bridge_laws.proofs.Parts.{same-missing, same-kind, same-cause}
 use Rattle.bridge_laws.proofs.Cores.{local-core}
 use Rattle.trace.specs.Events as event
 use Rattle.trace.specs.Events.{Call, Event, called, step, run, start}
@@ -112,10 +112,10 @@ read-on sent h q room v e w during f =
     let l = read-ok (h .bridge) q room e .slot in
     let p = opens h q room v e in
     record {
-      clean = record { requester = ap (λ (s : Settings). s .requester) (keeps h q room v e .settings); read = λ n. p .cause; config = λ z. absurd (omega arith) };
+      clean = record { requester = ap (λ (s : Settings). s .requester) (keeps h q room v e .settings); read = λ n. same-cause (p .slot); config = λ z. absurd (omega arith) };
       due = λ t o.
           let (j, i, z) = read-newer h q room v e t o in
-          record { bytes = λ n. rw (z, read-numbers sent h q room v e w j i, p .missing j i) (f j i); word = λ n. absurd (omega arith) };
+          record { bytes = λ n. rw (z, read-numbers sent h q room v e w j i, same-missing (p .tag j i)) (f j i); word = λ n. absurd (omega arith) };
     }
 
 pub read-okay : ReadOkay

@@ -21,7 +21,7 @@ use Rattle.machine.specs.Verdict.{causeResponse, causeBit}
 use Rattle.machine.specs.Completions.{Held, configAnswer, configDone, configCompleted, isUnexpected}
 use Rattle.machine.specs.Take.{stateOf}
 use Rattle.machine.proofs.Judging.{never}
-use Rattle.bridge_laws.specs.Rows.{countedTag, shutTag, faultedSlot, closedSlot, freedCore}
+use Rattle.bridge_laws.specs.Rows.{countedTag, shutTag, faultedSlot, closedSlot, freedCore, notedSlot}
 use Rattle.bridge_laws.specs.Effects.{Acts, same, Serves, good-part, good-last, poison-part, poison-last, fails, Expires, memory, config}
 use Rattle.bridge_laws.proofs.Effects.{config-serves}
 use Rattle.bridge_laws.proofs.Parts.{same-missing, same-sent, same-owner, same-place, same-size}
@@ -65,7 +65,7 @@ cause-not-okay Timeout e = absurd (omega arith)
 -- a failure is noted
 module _ (place : ℕ) (why : Cause) (s : Slot) (w : SlotFits s) where
   abbrev noted : Slot
-  noted = record { state = s .state; size = s .size; pieces = s .pieces; fault = place; cause = causeResponse why }
+  noted = notedSlot place (causeResponse why) s
 
   noted-fits : SlotFits noted
   noted-fits = record { alive = w .alive; fits = w .fits; marked = λ e. inr (cause-not-okay why) }
