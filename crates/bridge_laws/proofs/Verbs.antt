@@ -1,6 +1,6 @@
 -- The verbs on a tag and on a slot: the effect of each by rows and core, and what it leaves as it is, whatever the lengths of
 -- the tables.
-use Prim.Native.Nat.{ℕ, _-_, _≤_, _<_}
+use Prim.Native.Nat.{ℕ, _≤_, _<_}
 use mathlib.Core.Path.{_≡_, refl, sym, ap, subst, _∙_}
 use mathlib.Core.Logic.{_≢_}
 use native.Mathlib.Omega.{arith}

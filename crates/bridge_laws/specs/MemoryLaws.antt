@@ -23,9 +23,9 @@ use Rattle.burst.specs.declared.Burst.{Burst}
 use Rattle.burst.specs.declared.Piece.{Piece}
 use Rattle.burst.specs.Bursts.{burstNumber, lengthOf}
 use Rattle.burst.specs.Pieces.{addresses, pieces}
-use Rattle.burst.specs.Words.{wordAddress, lowerAddress, wanted, wordsOf}
+use Rattle.burst.specs.Words.{wordAddress, wanted, wordsOf}
 use Rattle.machine.specs.Bridge.{Bridge}
-use Rattle.machine.specs.State.{tagCount, slotCount, slotSize, slotOpen, memoryRead, tagAt, slotAt, raise, freeSlot, refusal}
+use Rattle.machine.specs.State.{tagCount, slotCount, tagAt, slotAt, raise, freeSlot, refusal}
 use Rattle.machine.specs.Memory.{windowFor, pcieOf, piecesOf, pieceOf, placeIn, piecePending, memoryRequest, pieceRequest, packet, readRefusal, readBridge, readBytes, readStep, readArea, writeRefusal, writeBytes, writeStep, writeArea}
 use Rattle.bridge_laws.specs.Rows.{pendingTag, waitingSlot}
 

@@ -1,5 +1,4 @@
 -- Demand 3: all its claims, and what they say of the example.
-use Prim.Native.Nat.{ℕ}
 use mathlib.Core.Path.{_≡_}
 use mathlib.Core.List.{List}
 use Rattle.machine.specs.Take.{looked}

@@ -1,9 +1,9 @@
 -- The methods are `step` at their events.
 use Prim.Native.Nat.{ℕ}
 use mathlib.Core.Path.{_≡_, refl, sym}
-use mathlib.Core.List.{List, [], _++_}
+use mathlib.Core.List.{List, []}
 use mathlib.Core.Bool.{Bool, true, false, cond}
-use lib.ListN.{length, drop}
+use lib.ListN.{length}
 use lib.Dec.{eqb}
 use borrow.Author.Tests.{eqb-true}
 use Rattle.machine.specs.State.{accepted, refusal}
@@ -11,7 +11,7 @@ use Rattle.machine.specs.Memory.{filled, readRefusal, readBytes, readArea, writ
 use Rattle.machine.specs.Config.{accessOf, configRefusal, configBytes, configArea}
 use Rattle.machine.specs.Completions.{plain}
 use Rattle.machine.specs.Take.{takeRefusal}
-use Rattle.trace.specs.Methods.{Plays, Methods}
+use Rattle.trace.specs.Methods.{Methods}
 
 area-by : (z : Bool) (bytes area : List ℕ) → cond z (filled bytes area) area ≡ filled (cond z bytes []) area
 area-by true bytes area = refl

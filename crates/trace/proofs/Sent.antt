@@ -19,7 +19,7 @@ use Rattle.bridge_laws.proofs.Sends.{accepted-read-sends}
 use Rattle.bridge_laws.proofs.ConfigLaws.{routed-packet}
 use Rattle.machine.proofs.Judging.{never}
 use Rattle.trace.specs.Events as event
-use Rattle.trace.specs.Events.{Event, step, run, start}
+use Rattle.trace.specs.Events.{Event, step}
 use Rattle.trace.specs.FarSide.{askOf, asked}
 use Rattle.trace.specs.Sound.{Sound}
 use Rattle.trace.specs.Sent.{headerOf, wordPacket, isWrite, AskedIsSent}

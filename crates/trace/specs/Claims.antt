@@ -1,5 +1,5 @@
 -- Demand 3: what is claimed of every whole list of events.
-use Prim.Native.Nat.{ℕ, zero, suc, _+_, _%_, _*_, _≤_, _<_}
+use Prim.Native.Nat.{ℕ, _+_, _%_, _*_, _≤_, _<_}
 use mathlib.Core.Path.{_≡_}
 use mathlib.Core.Logic.{_⊎_}
 use mathlib.Core.List.{List, [], _∷_, _++_, flatMap}

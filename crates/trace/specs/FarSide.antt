@@ -1,6 +1,6 @@
 -- The far side of demand 3, as values (01, 'Completions'): the requests that the bridge sends, what may be sent for each, and
 -- how the completions that come are paired with them.
-use Prim.Native.Nat.{ℕ, zero, suc, _+_, _-_, _*_, _%_, _≤_, _<_}
+use Prim.Native.Nat.{ℕ, suc, _+_, _-_, _%_, _≤_, _<_}
 use mathlib.Core.Path.{_≡_}
 use mathlib.Core.List.{List, [], _∷_, _++_, map, List·Memᴰ}
 use mathlib.Core.Bool.{Bool, true, false, cond, not, _&&_}
@@ -15,7 +15,7 @@ use Rattle.burst.specs.Pieces.{addresses}
 use Rattle.machine.specs.Bridge.{Bridge}
 use Rattle.machine.specs.State.{tagCount}
 use Rattle.machine.specs.Memory.{pcieOf, piecesOf, pieceOf, readRefusal}
-use Rattle.machine.specs.Config.{Access, routeOf, goesOut, configRefusal}
+use Rattle.machine.specs.Config.{routeOf, goesOut, configRefusal}
 use Rattle.machine.specs.Verdict.{useful}
 use Rattle.machine.specs.Completions.{Held, completionOf, usefulBytes}
 use Rattle.trace.specs.Events.{Call, read, write, config, look, release, Event, call, completion, tick, link, step}

@@ -1,10 +1,10 @@
 -- 'the response of the first failed piece in address order'; 'If a poisoned piece fails again later, the first cause gives its
 -- response' (01, 'Completions'): said over the failures of a read's pieces, as they are seen.
-use Prim.Native.Nat.{ℕ, zero, suc, _+_, _-_, _/_, _≤_, _<_}
+use Prim.Native.Nat.{ℕ, zero, suc, _+_, _-_, _/_, _≤_}
 use mathlib.Core.Path.{_≡_}
 use mathlib.Core.List.{List, [], _∷_, _++_}
 use mathlib.Core.Option.{Option, none, some}
-use mathlib.Core.Bool.{Bool, true, false, cond, _&&_}
+use mathlib.Core.Bool.{cond, _&&_}
 use lib.ListN.{length, getD}
 use lib.Dec.{eqb, ltb}
 use Rattle.tlp.specs.declared.completion.CompletionRead.{CompletionRead}

@@ -7,14 +7,13 @@ use mathlib.Core.Bool.{Bool}
 use lib.ListN.{length}
 use Rattle.burst.specs.declared.Burst.{Burst}
 use Rattle.machine.specs.Bridge.{Bridge}
-use Rattle.parts.specs.declared.Answer.{Answer}
 use Rattle.machine.specs.State.{Answered}
 use Rattle.machine.specs.Memory.{filled, readStep, readArea, writeStep, writeArea}
 use Rattle.machine.specs.Config.{accessOf, configStep, configArea}
-use Rattle.machine.specs.Completions.{Held, held, completed, completeStep}
+use Rattle.machine.specs.Completions.{held, completed, completeStep}
 use Rattle.machine.specs.Ticks.{ticked, tickStep, linked, linkStep}
 use Rattle.machine.specs.Take.{takeRefusal, looked, releaseStep}
-use Rattle.trace.specs.Events.{read, write, config, look, release, Event, call, completion, tick, link, Result, step}
+use Rattle.trace.specs.Events.{read, write, config, look, release, call, completion, tick, link, Result, step}
 
 -- a method that answers with r: the store after it, and its area before and after; where it has no area, both are empty
 pub record Plays (x : Result) (r : Answered) (store area after : List ℕ) : Type 0 where

@@ -3,14 +3,14 @@ use Prim.Native.Nat.{ℕ, zero, suc, _+_, _-_, _^_, _≤_, _<_}
 use mathlib.Core.Path.{_≡_}
 use mathlib.Core.Logic.{_⊎_, _≢_}
 use mathlib.Core.List.{List}
-use mathlib.Core.Bool.{Bool, true, false, cond, not, _&&_}
+use mathlib.Core.Bool.{Bool, false, cond, not, _&&_}
 use lib.ListN.{length, getD}
 use lib.Dec.{eqb, ltb}
 use Rattle.bits.specs.Bits.{isSet}
 use Rattle.address.specs.declared.Settings.{Settings}
 use Rattle.address.specs.Settings.{settingsNumber}
 use Rattle.machine.specs.Bridge.{Bridge}
-use Rattle.machine.specs.State.{tagCount, slotCount, missingOf, ownerOf, placeOf, Open, registersOf}
+use Rattle.machine.specs.State.{tagCount, missingOf, ownerOf, placeOf, Open, registersOf}
 use Rattle.machine.specs.Completions.{storeSize, Held}
 use Rattle.machine.specs.Ticks.{ageOf}
 use Rattle.machine.specs.Take.{stateOf}

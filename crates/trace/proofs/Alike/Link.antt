@@ -8,7 +8,7 @@ use native.Mathlib.Decide.{ℕ-discrete}
 use lib.ListN.{length}
 use lib.Dec.{eqb}
 use borrow.Author.Tests.{eqb-true, eqb-false, le-ltb}
-use Rattle.machine.specs.State.{Slot, tagAt, slotAt, slotState, tagCount, slotCount, slotSize, slotFinished, slverr, coreIn}
+use Rattle.machine.specs.State.{Slot, tagAt, slotAt, slotState, tagCount, slotCount, slotSize, slverr, coreIn}
 use Rattle.machine.specs.Completions.{storeSize, Held, held, zeroed, configDone}
 use Rattle.machine.specs.Ticks.{linkIn, dropSlots, linkLost, linked}
 use Rattle.bridge_laws.specs.Rows.{droppedStore, lostSlot}
