@@ -33,8 +33,8 @@ types_only() { # LIB
 
 # the modules of a crate's proofs/ that some lines use, as paths of files below it
 named() { # LIBRARY CRATE, lines on standard input
-    sed -n "s/^use $1\.proofs\.\([A-Za-z0-9.]*\).*/\1/p" | sed 's/\.$//' | tr . / | sort -u | while read -r m; do
-        [ -f "crates/$2/proofs/$m.antt" ] && echo "$m"
+    sed -n -e 's/^pub use/use/' -e "s/^use $1\.proofs\.\([A-Za-z0-9.]*\).*/\1/p" | sed 's/\.$//' | tr . / | sort -u | while read -r m; do
+        [ ! -f "crates/$2/proofs/$m.antt" ] || echo "$m"
     done
 }
 
