@@ -24,9 +24,10 @@ use Rattle.parts.specs.declared.Core.{Core}
 use Rattle.machine.specs.Bridge.{Bridge}
 use Rattle.machine.specs.State.{tagCount, Answered, coreIn, refusalChange, refusal, answered, refused, registersOf}
 use Rattle.machine.specs.Memory.{areaSize, packet}
-use Rattle.machine.specs.Config.{Access, routeOf, goesOut, configNumber, configRefusal, localCore, routedBridge, payloadOf, configBytes, configStep, configArea}
+use Rattle.machine.specs.Config.{Access, routeOf, goesOut, configNumber, configRefusal, routedBridge, payloadOf, configBytes, configStep, configArea}
 use Rattle.bridge_laws.specs.ConfigLaws.{PassedAccepted, ConfigRefused, LocalSendsNothing, LocalReadKeeps, LocalReadFinishes, LocalWriteFinishes, Opens, RoutedOpens, Routed, requestOf, RoutedPacket}
 use Rattle.machine.proofs.Configs.{passed, routed-step}
+use Rattle.bridge_laws.proofs.Cores.{local-is}
 use Rattle.bridge_laws.proofs.Serving.{routed-acts, routed-takes}
 
 -- ---- accepted
@@ -71,12 +72,12 @@ pub local-sends-nothing : LocalSendsNothing
 local-sends-nothing b a w l = rw l
 
 pub local-read-finishes : LocalReadFinishes
-unfolding configStep localCore
-local-read-finishes b a w room l z e = rw (eq-eqb _ _ e, l, z)
+unfolding configStep
+local-read-finishes b a w room l z e = rw (eq-eqb _ _ e, l, local-is (b .core) a w, z)
 
 pub local-write-finishes : LocalWriteFinishes
-unfolding configStep localCore
-local-write-finishes b a w room l z e = rw (eq-eqb _ _ e, l, z)
+unfolding configStep
+local-write-finishes b a w room l z e = rw (eq-eqb _ _ e, l, local-is (b .core) a w, z)
 
 pub local-read-keeps : LocalReadKeeps
 local-read-keeps b a w room l z = by (ℕ-discrete (configRefusal b a room) 0)

@@ -1,14 +1,14 @@
 -- What the steps on the core leave of it: but for a local write's words, registers are opaque above this file, the link apart.
 use Prim.Native.Nat.{ℕ}
-use mathlib.Core.Path.{_≡_, refl}
+use mathlib.Core.Path.{_≡_, refl, ap}
 use mathlib.Core.Bool.{Bool, true, false, cond}
 use Rattle.ecam.specs.declared.Registers.{Registers}
-use Rattle.ecam.specs.Registers.{localWrite, localRead}
+use Rattle.ecam.specs.Registers.{raised, withDecode, localWrite, localRead}
 use Rattle.ecam.proofs.Writes.{write-only-named}
 use Rattle.parts.specs.declared.Core.{Core}
 use Rattle.parts.specs.Answers.{changed}
 use Rattle.refusals.specs.Table.{Change, keeps, sets, changeOf}
-use Rattle.machine.specs.State.{withRegisters, doneConfig, okay, raisedCore, refusalChange}
+use Rattle.machine.specs.State.{withRegisters, withConfig, doneConfig, okay, raisedCore, refusalChange}
 use Rattle.machine.specs.Config.{Access, localCore}
 
 -- registers alone differ, and not the link
@@ -49,3 +49,29 @@ pub local-core : (c : Core) (a : Access) (w : ℕ) → LocalCore c a w (localCor
 unfolding localCore
 local-core c a w =
     record { free = refl; ticks = refl; config = refl; link = write-link (a .write) (c .registers) w (a .strobes) (a .word) }
+
+-- the core that a local access leaves, whole
+pub local-is : (c : Core) (a : Access) (w : ℕ)
+    → localCore c a w
+    ≡ withRegisters (cond (a .write) (localWrite (c .registers) w (a .strobes) (a .word)) (c .registers))
+    (withConfig (doneConfig (a .write) okay (cond (a .write) 0 (localRead (c .registers) w))) c)
+unfolding localCore
+local-is c a w = refl
+
+-- ---- equal registers stay equal: their change is a function of them
+
+pub raised-same : (i : ℕ) (c d : Core) → c .registers ≡ d .registers → raisedCore i c .registers ≡ raisedCore i d .registers
+unfolding raisedCore
+raised-same i c d e = ap (λ (r : Registers). withDecode r (raised (r .decode) i)) e
+
+pub refusal-same : (n : ℕ) (c d : Core) → c .registers ≡ d .registers → refusalChange n c .registers ≡ refusalChange n d .registers
+unfolding refusalChange
+refusal-same n c d e = by (changeOf n)
+  where
+    by : (x : Change) → changed x c .registers ≡ changed x d .registers
+    by keeps = e
+    by (sets i) = raised-same i c d e
+
+pub local-same : (a : Access) (w : ℕ) (c d : Core) → c .registers ≡ d .registers → localCore c a w .registers ≡ localCore d a w .registers
+unfolding localCore
+local-same a w c d e = ap (λ (r : Registers). cond (a .write) (localWrite r w (a .strobes) (a .word)) r) e

@@ -11,7 +11,7 @@ use Rattle.machine.specs.Completions.{Held, held}
 use Rattle.machine.specs.Ticks.{dropSlot, dropSlots, linkLost, linkIn, dropConfig}
 use Rattle.bridge_laws.specs.MemoryLaws.{Tables}
 use Rattle.bridge_laws.specs.RowLaws.{SlotAlone}
-use Rattle.bridge_laws.specs.Rows.{droppedSlot, droppedStore}
+use Rattle.bridge_laws.specs.Rows.{droppedSlot, droppedStore, droppedTo}
 use Rattle.bridge_laws.specs.Effects.{Acts, same, DropLoses}
 use Rattle.bridge_laws.proofs.Rows.{either, columns, zeros}
 use Rattle.bridge_laws.proofs.Cores.{raised-core}
@@ -51,11 +51,12 @@ record Drops (h : Held) (n : ℕ) (x : Held) : Type 0 where
   tag : (t : ℕ) → tagAt (x .bridge) t ≡ tagAt (h .bridge) t
   slot : (k : ℕ) → k < n → slotAt (x .bridge) k ≡ droppedSlot (slotAt (h .bridge) k)
   later : (k : ℕ) → n ≤ k → slotAt (x .bridge) k ≡ slotAt (h .bridge) k
+  store : x .store ≡ droppedTo (slotAt (h .bridge)) (h .store) n
 
 drops : (h : Held) → Tables (h .bridge) → Drops h slotCount (dropSlots h slotCount)
 drops h v =
     each-slot (Drops h) h
-    (record { settings = refl; tables = v; core = refl; tag = λ t. refl; slot = λ k m. absurd (omega arith); later = λ k m. refl })
+    (record { settings = refl; tables = v; core = refl; tag = λ t. refl; slot = λ k m. absurd (omega arith); later = λ k m. refl; store = refl })
     turn
   where
     turn : (n : ℕ) (x : Held) → n < slotCount → Drops h n x → Drops h (suc n) (dropSlot x n)
@@ -68,6 +69,7 @@ drops h v =
           tag = λ t. drop n x .alone .tags t ∙ p .tag t;
           slot = λ k m. by k m (ℕ-discrete k n);
           later = λ k m. a .slots k (λ e. omega arith) ∙ p .later k (omega arith);
+          store = drop-store n x ∙ (ap (λ s. droppedStore n s (x .store)) (p .later n (omega arith)) ∙ ap (droppedStore n (slotAt (h .bridge) n)) (p .store));
         }
       where
         by : (k : ℕ) → k < suc n → Dec (k ≡ n) → slotAt (dropSlot x n .bridge) k ≡ droppedSlot (slotAt (h .bridge) k)
@@ -83,7 +85,7 @@ unfolding linkLost
 drop-loses h v =
     let w : Tables (linkLost (h .bridge)) = omega (arith, length-replicate {A = ℕ} tagCount 0) in
     let p = drops (held (linkLost (h .bridge)) (h .store)) w in
-    record { settings = p .settings; tables = p .tables; core = p .core; tag = λ t. p .tag t ∙ rw (zeros tagCount t); slot = p .slot }
+    record { settings = p .settings; tables = p .tables; core = p .core; tag = λ t. p .tag t ∙ rw (zeros tagCount t); slot = p .slot; store = p .store }
 
 -- whatever the tables' lengths: the slots' rows, and the configuration slot
 pub lost-slot : (b : Bridge) (j : ℕ) → slotAt (linkLost b) j ≡ slotAt b j

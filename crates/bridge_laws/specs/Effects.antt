@@ -23,7 +23,7 @@ use Rattle.machine.specs.Completions.{Held, held, usefulBytes, failed, pieceClo
 use Rattle.machine.specs.Ticks.{timedOut, dropSlots, linkLost, linkIn, dropConfig}
 use Rattle.machine.specs.Take.{slotFreed}
 use Rattle.bridge_laws.specs.MemoryLaws.{Tables}
-use Rattle.bridge_laws.specs.Rows.{countedTag, shutTag, pendingTag, faultedSlot, closedSlot, waitingSlot, droppedSlot, freedSlot, freedCore, takenCore, closedStore}
+use Rattle.bridge_laws.specs.Rows.{countedTag, shutTag, pendingTag, faultedSlot, closedSlot, waitingSlot, droppedSlot, freedSlot, freedCore, takenCore, closedStore, droppedTo}
 
 -- ---- an effect
 
@@ -164,6 +164,7 @@ pub record Lost (h x : Held) : Type 0 where
       (linkIn false (withFree (2 ^ tagCount - 1) (withConfig (dropConfig (h .bridge .core .config)) (h .bridge .core))))
   pub tag : (t : ℕ) → tagAt (x .bridge) t ≡ shutTag (tagAt (h .bridge) t)
   pub slot : (k : ℕ) → k < slotCount → slotAt (x .bridge) k ≡ droppedSlot (slotAt (h .bridge) k)
+  pub store : x .store ≡ droppedTo (slotAt (h .bridge)) (h .store) slotCount
 
 abbrev pub DropLoses : Type 0
 DropLoses = (h : Held) → Tables (h .bridge) → Lost h (dropSlots (held (linkLost (h .bridge)) (h .store)) slotCount)

@@ -1,5 +1,5 @@
 -- The machine's steps on rows: what becomes of the one tag and the one slot that a step concerns, of the core and of the store.
-use Prim.Native.Nat.{ℕ, _+_, _-_, min}
+use Prim.Native.Nat.{ℕ, zero, suc, _+_, _-_, min}
 use mathlib.Core.List.{List}
 use mathlib.Core.Path.{_≡_}
 use mathlib.Core.Bool.{true, false, cond}
@@ -102,3 +102,8 @@ closedStore k s store = cond (leb (s .pieces) 1) (finishedStore k s store) store
 
 abbrev pub droppedStore : ℕ → Slot → List ℕ → List ℕ
 droppedStore k s store = cond (eqb (s .state) slotOpen) (zeroed k (min (s .size) slotSize) store) store
+
+-- the slots in turn, by their rows before the drop
+abbrev pub droppedTo : (ℕ → Slot) → List ℕ → ℕ → List ℕ
+droppedTo row store zero = store
+droppedTo row store (suc n) = droppedStore n (row n) (droppedTo row store n)

@@ -11,11 +11,10 @@ use borrow.Author.Tests.{eqb-true, eqb-false, le-ltb}
 use Rattle.machine.specs.State.{Slot, tagAt, slotAt, slotState, tagCount, slotCount, slotSize, slverr, coreIn}
 use Rattle.machine.specs.Completions.{storeSize, Held, held, zeroed, configDone}
 use Rattle.machine.specs.Ticks.{linkIn, dropSlots, linkLost, linked}
-use Rattle.bridge_laws.specs.Rows.{droppedStore, lostSlot}
+use Rattle.bridge_laws.specs.Rows.{droppedStore, droppedTo, lostSlot}
 use Rattle.bridge_laws.specs.Effects.{Lost}
 use Rattle.bridge_laws.proofs.Effects.{drop-loses}
 use Rattle.bridge_laws.proofs.Parts.{same-missing}
-use Rattle.bridge_laws.proofs.BothTurns.{droppedTo, lost-store}
 use Rattle.trace.proofs.Alike.Twin.{Like, equal, unused, like-of, SlotsLike, Twin, config-cores, free-cores, link-cores, raised-cores, twin-of}
 use Rattle.trace.proofs.Alike.Stores.{Still, still, still-then, SameAt, Room, zeroed-still, zeroed-same, Gap, Shown, Pair, core-pair}
 
@@ -78,14 +77,14 @@ module _ {h g : Held} (p : Pair h g) where
       by q s t k m f i v (yes e) = subst (λ j. SameAt j i (after h (suc n)) (after g (suc n))) (sym e) (t (rw e at f) i (rw e at v))
       by q s t k m f i v (no d) = s .kept (slotSize * k + i) (q .zeroes k (omega arith) f i v)
 
-  lost-pair : {x y : Held} → Lost h x → Lost g y → x .store ≡ after h slotCount → y .store ≡ after g slotCount → Pair x y
-  lost-pair {x} a b ex ey =
+  lost-pair : {x y : Held} → Lost h x → Lost g y → Pair x y
+  lost-pair {x} a b =
       let s = drops slotCount (omega arith) in
       record {
         twin = lost-twin p a b;
-        early = rw (ap length ex ∙ s .stores .early) (p .early);
-        late = rw (ap length ey ∙ s .stores .late) (p .late);
-        bytes = λ k l. rw (ex, ey)
+        early = rw (ap length (a .store) ∙ s .stores .early) (p .early);
+        late = rw (ap length (b .store) ∙ s .stores .late) (p .late);
+        bytes = λ k l. rw (a .store, b .store)
             (subst (λ r. Shown k r (Gap (tagAt (x .bridge)) k) (after h slotCount) (after g slotCount)) (sym (a .slot k l)) (shown k l s (eqb (slotState (h .bridge) k) 1) refl));
       }
     where
@@ -108,5 +107,5 @@ module _ {h g : Held} (p : Pair h g) where
       choice x z = cond z (dropSlots (held (linkLost (x .bridge)) (x .store)) slotCount) (held (coreIn (linkIn up (x .bridge .core)) (x .bridge)) (x .store))
 
       by : (z : Bool) → Pair (choice h z) (choice g z)
-      by true = lost-pair (drop-loses h (p .twin .early)) (drop-loses g (p .twin .late)) (lost-store h (p .twin .early)) (lost-store g (p .twin .late))
+      by true = lost-pair (drop-loses h (p .twin .early)) (drop-loses g (p .twin .late))
       by false = core-pair p (linkIn up) (link-cores (p .twin .core) up)

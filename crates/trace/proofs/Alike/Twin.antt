@@ -20,8 +20,7 @@ use Rattle.bridge_laws.specs.MemoryLaws.{Tables}
 use Rattle.bridge_laws.specs.Rows.{pendingTag, freedCore, takenCore}
 use Rattle.bridge_laws.specs.Effects.{Acts}
 use Rattle.bridge_laws.proofs.Parts.{same-missing, same-sent, same-owner, same-place, same-next, same-kind}
-use Rattle.bridge_laws.proofs.Cores.{Registered, raised-core, refusal-core, local-core}
-use Rattle.bridge_laws.proofs.BothTurns.{raised-same, refusal-same, local-same}
+use Rattle.bridge_laws.proofs.Cores.{Registered, raised-core, refusal-core, local-core, raised-same, refusal-same, local-same}
 
 -- ---- the relation
 
