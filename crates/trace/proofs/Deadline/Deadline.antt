@@ -163,7 +163,7 @@ read-deadline s store l before q room later e t =
     let h = run (start s store) before in
     let k = freeSlot (h .bridge) in
     let v = run-sound s store l before in
-    by-read h q room v e (λ y. Until (Answered k) k (held y (h .store)) later) (answers later (read-waits h q room v e) (rw (keeps h q room v e .settings) t))
+    by-read h q room v e (λ y. Until (Answered k) k (held y (h .store)) later) (answers later (read-waits h q room v e) (rw (keeps h q room v e .settings) (omega arith)))
 
 -- ---- configuration accesses
 
@@ -203,4 +203,4 @@ config-deadline s store l before a room later e t =
     let v = run-sound s store l before in
     by-route h a room v e (λ y. Until (Answered 8) 8 (held y (h .store)) later)
     (λ w r u. let x = held (localBridge (h .bridge) a w) (h .store) in already (Answered 8) 8 x later (finished-answered 8 x u (local-done (h .bridge) a w)))
-    (λ g u. answers later (routed-waits h a room v e g u) (rw (routes-acts h a room v e g 8 .settings) t))
+    (λ g u. answers later (routed-waits h a room v e g u) (rw (routes-acts h a room v e g 8 .settings) (omega arith)))
