@@ -151,7 +151,7 @@ outcome() { # LOG TEXT
     fi
     local first falls
     first=$(grep '^[^ ]*: error: ' "$1" | grep -v 'was not admitted') || true
-    falls=$(sed -n 's/.*\/\(Bytes\|Deadline\|Okay\|Alike\)\.antt:[0-9:]* error: `\(bytes\|alike\|[a-z]*-deadline\|[a-z]*-okay\)`.*/\2/p' "$1" | list)
+    falls=$(sed -n 's/.*\/\(Bytes\|Deadline\|Okay\|Alike\)\.antt:[0-9:]* error: `\(bytes\|alike\|[a-z]*-deadline\|\(read\|config\|local\)-okay\)`.*/\2/p' "$1" | list)
     if ! grep -q 'Demand3\.antt:[0-9:]* error: `demand3`: .* was not admitted' "$1"; then
         echo "not proved, and demand3 was not reached: $(printf '%s\n' "$first" | head -n 1 | cut -c 1-300)"
     elif printf '%s\n' "$first" | grep -Fvq -e "$2"; then

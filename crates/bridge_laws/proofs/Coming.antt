@@ -16,7 +16,7 @@ use Rattle.verdict.specs.declared.Verdict.the-variants.{Unexpected, Good, Poiso
 use Rattle.machine.specs.State.{coreIn, missingOf, ownerOf, placeOf, isOpen, isWrite, refusalChange}
 use Rattle.machine.specs.Verdict.{memoryVerdict, configVerdict}
 use Rattle.machine.specs.Completions.{storeSize, Held, held, nextAddress, verdictOf, completionOf, isUnexpected, readRefused, completeRefusal, expected, completedBy, completed}
-use Rattle.bridge_laws.specs.CompletionLaws.{Came, short, malformed, lost, memory, config, CameOneWay, isMalformed, isNotExpected, CompletionOrder}
+use Rattle.bridge_laws.specs.CompletionLaws.{Ours, Came, short, malformed, lost, memory, config, CameOneWay, isMalformed, isNotExpected, CompletionOrder}
 use Rattle.machine.proofs.Judging.{never}
 use Rattle.bridge_laws.proofs.Rows.{either}
 
@@ -37,7 +37,7 @@ module _ (b : Bridge) (c : Completion) (e : isUnexpected (verdictOf b c) ≡ fal
   is-expected : (eqb (c .requester) (b .settings .requester) ≡ true) × ((isOpen (missingOf b (c .tag)) (placeOf b (c .tag)) ≡ true) × (verdictOf b c
       ≡ cond (ltb (ownerOf b (c .tag)) 8) (memoryVerdict c (missingOf b (c .tag)) (nextAddress b (c .tag))) (configVerdict c (isWrite b (c .tag)))))
   unfolding verdictOf
-  is-expected = expected-by _ (eqb (c .requester) (b .settings .requester)) (isOpen (missingOf b (c .tag)) (placeOf b (c .tag))) e
+  is-expected = expected-by _ _ _ e
 
   pub verdict-open : isOpen (missingOf b (c .tag)) (placeOf b (c .tag)) ≡ true
   verdict-open = is-expected .1 .0
@@ -45,7 +45,7 @@ module _ (b : Bridge) (c : Completion) (e : isUnexpected (verdictOf b c) ≡ fal
   pub verdict-memory : ltb (ownerOf b (c .tag)) 8 ≡ true → verdictOf b c ≡ memoryVerdict c (missingOf b (c .tag)) (nextAddress b (c .tag))
   verdict-memory m = rw m at (is-expected .1 .1)
 
-  verdict-ours : c .requester ≡ b .settings .requester
+  verdict-ours : Ours b c
   verdict-ours = eqb-true _ _ (is-expected .0)
 
   verdict-config : ltb (ownerOf b (c .tag)) 8 ≡ false → verdictOf b c ≡ configVerdict c (isWrite b (c .tag))

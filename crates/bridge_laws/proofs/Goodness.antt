@@ -10,17 +10,14 @@ use Rattle.common.proofs.Tests.{row, holds}
 use Rattle.tlp.specs.declared.completion.Completion.{Completion}
 use Rattle.verdict.specs.declared.Verdict.the-variants.{Unexpected, Good, Poisoned, Failed}
 use Rattle.machine.specs.Verdict.{causeOf, useful, inOrder, received, memoryVerdict}
+use Rattle.machine.proofs.Judging.{orderTests}
 use Rattle.bridge_laws.specs.CompletionLaws.{IsGood, GoodExactly}
 
 module _ (c : Completion) (missing next : ℕ) where
-  tests : List Bool
-  tests = eqb (c .count) missing ∷ eqb (c .lower) (next % 128) ∷ ltb (4 * c .length) (c .lower % 4 + missing + 4) ∷ []
-
   received-good : (n : ℕ) → eqb (c .status) 0 ≡ true → inOrder c missing next ≡ true → (p : Bool) → c .poisoned ≡ p → cond p (Poisoned (useful c missing)) (Good (useful c missing)) ≡ Good n → IsGood c missing next × (n ≡ useful c missing)
-  unfolding tests
   received-good n s o true p e = let z : _≡_ {A = ℕ} 0 1 = cc in absurd (omega arith)
   received-good n s o false p e =
-      let r = row (c .payload) tests o in (
+      let r = row (c .payload) (orderTests c missing next) o in (
         record {
           status = eqb-true _ _ s;
           poisoned = p;
@@ -39,9 +36,8 @@ module _ (c : Completion) (missing next : ℕ) where
   good-by n false s o f false e = let z : _≡_ {A = ℕ} 0 1 = cc in absurd (omega arith)
 
   in-order : IsGood c missing next → inOrder c missing next ≡ true
-  unfolding tests
   in-order g =
-      holds (c .payload) tests
+      holds (c .payload) (orderTests c missing next)
       (g .payload, (eq-eqb _ _ (g .count), (eq-eqb _ _ (g .lower), (lt-ltb _ _ (g .length), tt))))
 
 pub good-exactly : GoodExactly

@@ -167,6 +167,10 @@ CompletionOrder =
 
 -- ---- what can come of a completion
 
+-- its requester ID is ours
+abbrev pub Ours : Bridge → Completion → Type 0
+Ours b c = c .requester ≡ b .settings .requester
+
 -- the bridge and store after it, and its number: one case a row, with the tests that lead to it
 pub data Came (h : Held) (s : List ℕ) : Held → ℕ → Type 0 where
   short : length (h .store) < storeSize → Came h s h 8
@@ -179,7 +183,7 @@ pub data Came (h : Held) (s : List ℕ) : Held → ℕ → Type 0 where
   memory : (c : Completion) (v : Verdict)
       → storeSize ≤ length (h .store)
       → completionOf s ≡ Header c
-      → c .requester ≡ h .bridge .settings .requester
+      → Ours (h .bridge) c
       → isOpen (missingOf (h .bridge) (c .tag)) (placeOf (h .bridge) (c .tag)) ≡ true
       → ownerOf (h .bridge) (c .tag) < 8
       → memoryVerdict c (missingOf (h .bridge) (c .tag)) (nextAddress (h .bridge) (c .tag)) ≡ v
@@ -188,7 +192,7 @@ pub data Came (h : Held) (s : List ℕ) : Held → ℕ → Type 0 where
   config : (c : Completion) (v : Verdict)
       → storeSize ≤ length (h .store)
       → completionOf s ≡ Header c
-      → c .requester ≡ h .bridge .settings .requester
+      → Ours (h .bridge) c
       → isOpen (missingOf (h .bridge) (c .tag)) (placeOf (h .bridge) (c .tag)) ≡ true
       → 8 ≤ ownerOf (h .bridge) (c .tag)
       → configVerdict c (isWrite (h .bridge) (c .tag)) ≡ v

@@ -43,12 +43,14 @@ some-word c v p = some (or-either with-data without (completion-ranges c v .payl
         let n : not (c .payload) ≡ true = row (not (c .payload)) (eqb (c .length) 0 ∷ not (c .poisoned) ∷ []) e .0 in
         never (sym p ∙ not-true (c .payload) n)
 
+-- the tests of `inOrder` on data, as a row
+abbrev pub orderTests : Completion → ℕ → ℕ → List Bool
+orderTests c missing next = eqb (c .count) missing ∷ eqb (c .lower) (next % 128) ∷ ltb (4 * c .length) (c .lower % 4 + missing + 4) ∷ []
+
 module _ (c : Completion) (missing next : ℕ) (v : validCompletion c ≡ true) where
   within : inOrder c missing next ≡ true → Within c missing (useful c missing)
   within e =
-      let r =
-      row (c .payload)
-      (eqb (c .count) missing ∷ eqb (c .lower) (next % 128) ∷ ltb (4 * c .length) (c .lower % 4 + missing + 4) ∷ []) e in
+      let r = row (c .payload) (orderTests c missing next) e in
       let w : 1 ≤ c .length = some-word c v (r .0) in
       let l : c .lower % 4 < 4 = mod-lt (c .lower) (omega arith) in
       record { most = omega arith; some = λ h. omega arith; inside = omega arith }

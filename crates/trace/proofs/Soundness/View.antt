@@ -27,7 +27,7 @@ use Rattle.parts.specs.declared.Core.{Core}
 use Rattle.parts.specs.declared.Answer.{Answer}
 use Rattle.ecam.specs.Route.{numberOf}
 use native.Mathlib.Omega.{arith}
-use Rattle.bridge_laws.specs.CompletionLaws.{Came, short, malformed, lost, memory, config}
+use Rattle.bridge_laws.specs.CompletionLaws.{Ours, Came, short, malformed, lost, memory, config}
 use Rattle.bridge_laws.proofs.Coming.{came-one-way}
 use Rattle.bridge_laws.proofs.Cores.{Registered, raised-core, refusal-core}
 use Rattle.machine.proofs.Configs.{passed}
@@ -53,7 +53,7 @@ pub data Move (h : Held) : Event → Held → Type 0 where
   routes : {a : Access} {room : ℕ} → configRefusal (h .bridge) a room ≡ 0 → goesOut (routeOf (h .bridge) a) ≡ true → Move h (event.call (event.config a room)) (held (routedBridge (h .bridge) a) (h .store))
   memories : {i : ℕ} {s : List ℕ} (c : Completion) (v : Verdict)
       → completionOf s ≡ Header c
-      → c .requester ≡ h .bridge .settings .requester
+      → Ours (h .bridge) c
       → isOpen (missingOf (h .bridge) (c .tag)) (placeOf (h .bridge) (c .tag)) ≡ true
       → ownerOf (h .bridge) (c .tag) < 8
       → memoryVerdict c (missingOf (h .bridge) (c .tag)) (nextAddress (h .bridge) (c .tag)) ≡ v
@@ -61,7 +61,7 @@ pub data Move (h : Held) : Event → Held → Type 0 where
       → Move h (event.completion i s) (memoryCompleted h (c .tag) (ownerOf (h .bridge) (c .tag)) (c .lower % 4) (drop 12 s) v)
   configs : {i : ℕ} {s : List ℕ} (c : Completion) (v : Verdict)
       → completionOf s ≡ Header c
-      → c .requester ≡ h .bridge .settings .requester
+      → Ours (h .bridge) c
       → isOpen (missingOf (h .bridge) (c .tag)) (placeOf (h .bridge) (c .tag)) ≡ true
       → 8 ≤ ownerOf (h .bridge) (c .tag)
       → configVerdict c (isWrite (h .bridge) (c .tag)) ≡ v
