@@ -7,6 +7,7 @@ use mathlib.Core.List.{List}
 use native.Mathlib.Omega.{arith}
 use lib.ListN.{length, drop, length-take, length-drop}
 use lib.Dec.{eqb}
+use Rattle.common.specs.Decode.{cfgTimeout}
 use Rattle.tlp.specs.declared.completion.Completion.{Completion}
 use Rattle.tlp.specs.declared.completion.CompletionRead.the-variants.{Header}
 use Rattle.verdict.specs.declared.Cause.{Cause}
@@ -120,8 +121,8 @@ late-kept {t} {h} (steps.memory m) l =
 late-kept {t} {h} (steps.config m) l =
     let k = ownerOf (h .bridge) t in
     let c = withConfig (configDone (h .bridge .core .config) slverr 0) (h .bridge .core) in
-    let p = core-only k t (h .bridge) (raisedCore 8 c) (raised-core 8 c .ticks) (λ s. absurd (omega arith)) in
-    kept-by (only-then p (shut-only k t (coreIn (raisedCore 8 c) (h .bridge))))
+    let p = core-only k t (h .bridge) (raisedCore cfgTimeout c) (raised-core cfgTimeout c .ticks) (λ s. absurd (omega arith)) in
+    kept-by (only-then p (shut-only k t (coreIn (raisedCore cfgTimeout c) (h .bridge))))
 
 -- ---- by all their arguments
 

@@ -4,6 +4,7 @@ use mathlib.Core.Path.{_≡_, refl, ap, _∙_}
 use mathlib.Core.List.{List}
 use native.Mathlib.Omega.{arith}
 use lib.Seq.{paste}
+use Rattle.common.specs.Decode.{cfgTimeout}
 use Rattle.tags.specs.Tags.{lowest}
 use Rattle.parts.specs.declared.Core.{Core}
 use Rattle.verdict.specs.declared.Cause.{Cause}
@@ -98,7 +99,7 @@ expires t h v l (steps.memory m) =
     let c = piece-closed t k (held (shut t x) (h .store)) (p .tables) m in
     memory m (then p (c .acts)) (c .store ∙ ap (λ (s : Slot). closedStore k s (h .store)) (p .slot))
 expires t h v l (steps.config m) =
-    let c : Core → Core = λ y. raisedCore 8 (withConfig (configDone (y .config) slverr 0) y) in
+    let c : Core → Core = λ y. raisedCore cfgTimeout (withConfig (configDone (y .config) slverr 0) y) in
     config m (λ k. after (core-acts t k c (h .bridge) v) (λ u. shut-acts t k (coreIn (c (h .bridge .core)) (h .bridge)) u l)) refl
 
 pub timed-out-expires : TimedOutExpires

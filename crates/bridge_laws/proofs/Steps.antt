@@ -6,6 +6,7 @@ use mathlib.Core.List.{List}
 use lib.Seq.{paste}
 use lib.Dec.{ltb, leb}
 use borrow.Author.Tests.{leb-true, leb-false, ltb-true, ltb-false}
+use Rattle.common.specs.Decode.{cfgTimeout}
 use Rattle.verdict.specs.declared.Cause.{Cause}
 use Rattle.verdict.specs.declared.Cause.the-variants.{Poison, Timeout}
 use Rattle.verdict.specs.declared.Verdict.{Verdict}
@@ -58,7 +59,7 @@ pub data Late (t : ℕ) (h : Held) : Held → Type 0 where
   config : slotCount ≤ ownerOf (h .bridge) t
       → Late t h
       (held
-      (shut t (coreIn (raisedCore 8 (withConfig (configDone (h .bridge .core .config) slverr 0) (h .bridge .core))) (h .bridge)))
+      (shut t (coreIn (raisedCore cfgTimeout (withConfig (configDone (h .bridge .core .config) slverr 0) (h .bridge .core))) (h .bridge)))
       (h .store))
 
 pub timed-steps : (t : ℕ) (h : Held) → Late t h (timedOut t h)

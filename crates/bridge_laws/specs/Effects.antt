@@ -6,6 +6,7 @@ use mathlib.Core.Logic.{_≢_}
 use mathlib.Core.List.{List}
 use mathlib.Core.Bool.{false}
 use lib.Seq.{paste}
+use Rattle.common.specs.Decode.{linkDownBit, cfgTimeout}
 use Rattle.tags.specs.Tags.{lowest, available}
 use Rattle.burst.specs.declared.Burst.{Burst}
 use Rattle.burst.specs.Bursts.{lengthOf}
@@ -138,7 +139,7 @@ pub data Expires (t : ℕ) (h x : Held) : Type 0 where
       (faultedSlot (placeOf (h .bridge) t) (causeResponse Timeout) (slotAt (h .bridge) (ownerOf (h .bridge) t))) (h .store)
       → Expires t h x
   config : slotCount ≤ ownerOf (h .bridge) t
-      → ((k : ℕ) → Acts t k shutTag same (λ c. raisedCore 8 (withConfig (configDone (c .config) slverr 0) c)) (h .bridge) (x .bridge))
+      → ((k : ℕ) → Acts t k shutTag same (λ c. raisedCore cfgTimeout (withConfig (configDone (c .config) slverr 0) c)) (h .bridge) (x .bridge))
       → x .store ≡ h .store
       → Expires t h x
 
@@ -160,7 +161,7 @@ pub record Lost (h x : Held) : Type 0 where
   pub tables : Tables (x .bridge)
   pub core :
       x .bridge .core
-      ≡ raisedCore 0
+      ≡ raisedCore linkDownBit
       (linkIn false (withFree (2 ^ tagCount - 1) (withConfig (dropConfig (h .bridge .core .config)) (h .bridge .core))))
   pub tag : (t : ℕ) → tagAt (x .bridge) t ≡ shutTag (tagAt (h .bridge) t)
   pub slot : (k : ℕ) → k < slotCount → slotAt (x .bridge) k ≡ droppedSlot (slotAt (h .bridge) k)
