@@ -1,14 +1,15 @@
 -- The effect of a link drop: the slots in turn, and the tags.
-use Prim.Native.Nat.{ℕ, suc, _^_, _-_, _≤_, _<_}
+use Prim.Native.Nat.{ℕ, suc, _≤_, _<_}
 use mathlib.Core.Path.{_≡_, refl, sym, ap, _∙_, subst}
 use mathlib.Core.Bool.{false}
 use native.Mathlib.Omega.{arith}
 use native.Mathlib.Decide.{ℕ-discrete}
 use lib.ListN.{length-replicate}
 use lib.Dec.{eqb}
-use Rattle.machine.specs.State.{Bridge, tagAt, slotAt, slotState, slotOpen, tagCount, slotCount, withConfig, withFree}
+use Rattle.common.specs.Decode.{linkDownBit}
+use Rattle.machine.specs.State.{Bridge, tagAt, slotAt, slotState, slotOpen, tagCount, slotCount}
 use Rattle.machine.specs.Completions.{Held, held}
-use Rattle.machine.specs.Ticks.{dropSlot, dropSlots, linkLost, linkIn, dropConfig}
+use Rattle.machine.specs.Ticks.{dropSlot, dropSlots, linkLost, dropConfig}
 use Rattle.bridge_laws.specs.MemoryLaws.{Tables}
 use Rattle.bridge_laws.specs.RowLaws.{SlotAlone}
 use Rattle.bridge_laws.specs.Rows.{droppedSlot, droppedStore, droppedTo}
@@ -94,4 +95,4 @@ lost-slot b j = refl
 
 pub lost-config : (b : Bridge) → linkLost b .core .config ≡ dropConfig (b .core .config)
 unfolding linkLost
-lost-config b = raised-core 0 (linkIn false (withFree (2 ^ tagCount - 1) (withConfig (dropConfig (b .core .config)) (b .core)))) .config
+lost-config b = raised-core linkDownBit _ .config

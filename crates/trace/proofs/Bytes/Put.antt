@@ -1,19 +1,18 @@
 -- Bytes put into a store: which byte is where, and that those of other slots stay.
-use Prim.Native.Nat.{ℕ, _+_, _-_, _*_, _≤_, _<_, min}
+use Prim.Native.Nat.{ℕ, _+_, _-_, _*_, _≤_, _<_}
 use mathlib.Core.Path.{_≡_, refl, sym, ap, subst, _∙_}
 use mathlib.Core.List.{List, _++_}
 use mathlib.Core.Logic.{_≢_, _⊎_, inl, inr, ⊎-elim, by-cases}
 use mathlib.Core.Bool.{Bool, true, false, cond}
 use native.Mathlib.Omega.{arith}
-use native.Mathlib.Nat.{add-zero}
 use native.Mathlib.Decide.{decLt}
-use lib.ListN.{length, getD, take, drop, replicate, length-replicate, List·getD-append}
+use lib.ListN.{length, getD, take, drop, List·getD-append}
 use lib.Seq.{paste, length-paste, length-paste-head, drop-paste, getD-take, getD-drop, getD-append-add, length-take-le}
-use lib.Dec.{leb, eqb}
 use Rattle.machine.specs.State.{Slot}
-use Rattle.machine.specs.Completions.{storeSize, zeroed}
+use Rattle.machine.specs.Completions.{storeSize}
 use Rattle.bridge_laws.specs.Rows.{closedStore}
 use Rattle.bridge_laws.specs.CompletionLaws.{Outside, BytesOnly}
+use Rattle.bridge_laws.proofs.Stores.{closed-bytes}
 
 -- whichever way a test goes
 pub either : {A : Type 0} (P : A → Type 0) (z : Bool) {x y : A} → P x → P y → P (cond z x y)
@@ -64,9 +63,4 @@ put-only k p n d s m f l e =
 
 -- what closing a piece of slot k writes
 pub closed-only : (k : ℕ) (s : Slot) (d : List ℕ) → k < 8 → storeSize ≤ length d → BytesOnly k d (closedStore k s d)
-closed-only k s d m l =
-    let n = min (s .size) 4096 in
-    let o : ℕ = 0 in
-    let zeros : BytesOnly k d (zeroed k n d) =
-    subst (λ (x : ℕ). BytesOnly k d (paste d x (replicate n 0) n)) (add-zero (4096 * k)) (put-only k 0 n d (replicate n 0) m (omega arith) l (omega (arith, length-replicate n o))) in
-    either (BytesOnly k d) (leb (s .pieces) 1) (either (BytesOnly k d) (eqb (s .cause) 0) (only-none k d) zeros) (only-none k d)
+closed-only = closed-bytes

@@ -1,16 +1,15 @@
 -- A bridge with no access open, as a link drop leaves it: what holds of every state holds of it.
-use Prim.Native.Nat.{ℕ, _-_, _^_, _≤_, _<_}
+use Prim.Native.Nat.{ℕ, _^_, _≤_, _<_}
 use mathlib.Core.Path.{_≡_, sym, ap, _∙_, subst}
 use mathlib.Core.Logic.{_≢_}
-use mathlib.Core.Bool.{false}
 use native.Mathlib.Omega.{arith}
 use lib.Dec.{ltb, eqb}
 use borrow.Author.Tests.{eqb-true, eqb-false, ltb-true}
 use Rattle.address.specs.Settings.{settingsNumber}
 use Rattle.parts.specs.declared.ConfigSlot.{ConfigSlot}
-use Rattle.machine.specs.State.{Bridge, Slot, slotAt, tagCount, withFree, withConfig}
+use Rattle.machine.specs.State.{Bridge, Slot, slotAt, tagCount}
 use Rattle.machine.specs.Completions.{Held}
-use Rattle.machine.specs.Ticks.{linkIn, dropConfig}
+use Rattle.machine.specs.Ticks.{dropConfig}
 use Rattle.machine.specs.Take.{stateIn, stateOf}
 use Rattle.bridge_laws.specs.Rows.{droppedSlot}
 use Rattle.bridge_laws.specs.Effects.{Lost}
@@ -59,10 +58,8 @@ config-done c = by-test (λ (x : ConfigSlot). x .state ≢ 1) (eqb (c .state) 1)
 pub lost-fine : {over new : ℕ → ℕ} {h x : Held} → FineTo over (h .bridge) → Lost h x → FineTo new (x .bridge)
 lost-fine {h = h} {x = x} v w =
     let b = h .bridge in
-    let c = linkIn false (withFree (2 ^ tagCount - 1) (withConfig (dropConfig (b .core .config)) (b .core))) in
-    let r = raised-core 0 c in
     let e = w .core in
     let row : (k : ℕ) → k < 8 → Dropped (slotAt (x .bridge) k) = λ k l. subst Dropped (sym (w .slot k l)) (dropped-row (slotAt b k) (v .slots k l)) in
-    idle-fine (x .bridge) (λ k l. row k l .done) (λ z. config-done (b .core .config) (sym (ap (λ s. s .config .state) e ∙ ap (λ s. s .state) (r .config)) ∙ z))
-    (ap settingsNumber (w .settings) ∙ v .right) (w .tables) (rw (e, r .ticks) (v .clock))
-    (ap (λ s. s .free) e ∙ r .free, λ t. same-missing (w .tag t)) (λ k l. row k l .fits)
+    idle-fine (x .bridge) (λ k l. row k l .done) (λ z. config-done (b .core .config) (sym (ap (λ s. s .config .state) e ∙ ap (λ s. s .state) (raised-core 0 _ .config)) ∙ z))
+    (ap settingsNumber (w .settings) ∙ v .right) (w .tables) (rw (ap (λ s. s .ticks) e ∙ raised-core 0 _ .ticks) (v .clock))
+    (ap (λ s. s .free) e ∙ raised-core 0 _ .free, λ t. same-missing (w .tag t)) (λ k l. row k l .fits)

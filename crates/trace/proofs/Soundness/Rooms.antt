@@ -1,21 +1,19 @@
 -- Every step keeps the length of the store.
-use Prim.Native.Nat.{ℕ, _*_, _≤_, _<_, min}
+use Prim.Native.Nat.{ℕ, _≤_, _<_}
 use mathlib.Core.Path.{_≡_, refl, ap, _∙_}
 use mathlib.Core.List.{List}
 use native.Mathlib.Omega.{arith}
-use lib.ListN.{length, replicate, length-replicate}
-use lib.Seq.{length-paste}
-use lib.Dec.{leb, eqb}
+use lib.ListN.{length}
 use Rattle.tlp.specs.declared.completion.CompletionRead.{CompletionRead}
 use Rattle.tlp.specs.declared.completion.CompletionRead.the-variants.{Header, Malformed}
-use Rattle.machine.specs.State.{Slot, slotAt, slotSize, slotOpen, okay}
-use Rattle.machine.specs.Completions.{storeSize, Held, held, zeroed, completionOf, completed}
+use Rattle.machine.specs.State.{Slot, slotAt}
+use Rattle.machine.specs.Completions.{storeSize, Held, held, completionOf, completed}
 use Rattle.machine.specs.Ticks.{linkLost, dropSlots}
 use Rattle.bridge_laws.specs.Rows.{closedStore, droppedStore}
 use Rattle.bridge_laws.proofs.Effects.{drop-store}
 use Rattle.bridge_laws.proofs.Turns.{each-slot}
+use Rattle.bridge_laws.proofs.Stores.{closed-bytes, dropped-bytes}
 use Rattle.bridge_laws.proofs.Keeping.{own-slot-only, malformed-keeps}
-use Rattle.trace.proofs.Soundness.Cases.{by-test}
 
 -- another store of the same length
 abbrev As : List ℕ → List ℕ → Type 0
@@ -23,16 +21,11 @@ As s x = length x ≡ length s
 
 -- a piece is closed, a slot is dropped
 module _ (k : ℕ) (r : Slot) (s : List ℕ) (l : k < 8) (m : storeSize ≤ length s) where
-  zero-room : As s (zeroed k (min (r .size) slotSize) s)
-  zero-room =
-      let n = min (r .size) slotSize in
-      length-paste s (slotSize * k) (replicate n 0) n (omega arith) (omega (arith, length-replicate {A = ℕ} n 0))
-
   pub closed-room : As s (closedStore k r s)
-  closed-room = by-test (As s) (leb (r .pieces) 1) (λ e. by-test (As s) (eqb (r .cause) okay) (λ f. refl) (λ f. zero-room)) (λ e. refl)
+  closed-room = closed-bytes k r s l m .room
 
   pub dropped-room : As s (droppedStore k r s)
-  dropped-room = by-test (As s) (eqb (r .state) slotOpen) (λ e. zero-room) (λ e. refl)
+  dropped-room = dropped-bytes k r s l m .room
 
 pub drop-room : (h : Held) → storeSize ≤ length (h .store) → As (h .store) (dropSlots (held (linkLost (h .bridge)) (h .store)) 8 .store)
 drop-room h m =
