@@ -1,4 +1,4 @@
--- What the steps on the core leave of it: but for a local write's words, registers are opaque above this file, the link apart.
+-- What the steps on the core leave of it, and of registers: to demand 3 they are opaque but for the link.
 use Prim.Native.Nat.{ℕ}
 use mathlib.Core.Path.{_≡_, refl, ap}
 use mathlib.Core.Bool.{Bool, true, false, cond}

@@ -64,9 +64,6 @@ slot-then j h x y p q = search (_∙_, q .bytes, p .bytes)
 pub answer-rows : (j : ℕ) (h : Held) (b : Bridge) → slotAt b j ≡ slotAt (h .bridge) j → (j ≡ 8 → b .core .config ≡ h .bridge .core .config) → AnswerSame j h (held b (h .store))
 answer-rows j h b e f = record { slot = λ l. slot-same j h (held b (h .store)) e (λ i m. refl); config = f; room = refl; beyond = λ i l. refl }
 
-pub answer-bridge : (j : ℕ) (h : Held) (b : Bridge) → b .state ≡ h .bridge .state → b .size ≡ h .bridge .size → b .pieces ≡ h .bridge .pieces → b .fault ≡ h .bridge .fault → b .cause ≡ h .bridge .cause → (j ≡ 8 → b .core .config ≡ h .bridge .core .config) → AnswerSame j h (held b (h .store))
-answer-bridge j h b st si p f c e = answer-rows j h b (rw (st, si, p, f, c)) e
-
 pub answer-same : (j : ℕ) (h : Held) → AnswerSame j h h
 answer-same j h = answer-rows j h (h .bridge) refl (λ e. refl)
 

@@ -10,22 +10,19 @@ use lib.Dec.{eqb}
 use Rattle.common.specs.Decode.{cfgTimeout}
 use Rattle.tlp.specs.declared.completion.Completion.{Completion}
 use Rattle.tlp.specs.declared.completion.CompletionRead.the-variants.{Header}
-use Rattle.verdict.specs.declared.Cause.{Cause}
 use Rattle.verdict.specs.declared.Cause.the-variants.{Poison, Timeout}
 use Rattle.verdict.specs.declared.Verdict.{Verdict}
-use Rattle.machine.specs.State.{Bridge, slotAt, withConfig, coreIn, raisedCore, raise, missingOf, ownerOf, placeOf, nextAddress, slotCount, counted, shut, freed, slverr}
+use Rattle.machine.specs.State.{slotAt, withConfig, coreIn, raisedCore, raise, missingOf, ownerOf, placeOf, nextAddress, slotCount, counted, shut, freed, slverr}
 use Rattle.machine.specs.Completions.{storeSize, Held, held, failed, pieceClosed, closed, usefulBytes, configDone, completionOf}
 use Rattle.machine.specs.contracts.Expected.{Fits, Whole}
 use Rattle.machine.proofs.Judging.{verdict-fits, read-whole, open-room}
-use Rattle.bridge_laws.specs.CompletionLaws.{OnlyHere, Kept, Came, short, malformed, lost, memory, config, OwnSlotOnly, MalformedKeeps, RefusedKeeps}
+use Rattle.bridge_laws.specs.CompletionLaws.{Kept, Came, short, malformed, lost, memory, config, OwnSlotOnly, MalformedKeeps, RefusedKeeps}
 use Rattle.bridge_laws.proofs.Cores.{raised-core}
-use Rattle.bridge_laws.proofs.Verbs.{only-then, core-only, raise-only, counted-only, freed-only, failed-leaves, piece-leaves, piece-store}
+use Rattle.bridge_laws.proofs.Verbs.{only-then, core-only, raise-only, counted-only, shut-only, freed-only, failed-leaves, piece-leaves, piece-store}
 use Rattle.bridge_laws.proofs.Steps as steps
 use Rattle.bridge_laws.proofs.Serving.{config-only}
 use Rattle.bridge_laws.proofs.Stores.{paste-only, closed-bytes, kept-same, kept-by, both-kept}
 use Rattle.bridge_laws.proofs.Coming.{came-one-way}
-pub use Rattle.bridge_laws.proofs.Coming.{verdict-open, verdict-memory}
-pub use Rattle.bridge_laws.proofs.Verbs.{shut-only}
 
 pub piece-kept : (k t : ℕ) → k < slotCount → (h : Held) → storeSize ≤ length (h .store) → Kept k t h (pieceClosed k h)
 piece-kept k t small h l = record {
@@ -123,17 +120,3 @@ late-kept {t} {h} (steps.config m) l =
     let c = withConfig (configDone (h .bridge .core .config) slverr 0) (h .bridge .core) in
     let p = core-only k t (h .bridge) (raisedCore cfgTimeout c) (raised-core cfgTimeout c .ticks) (λ s. absurd (omega arith)) in
     kept-by (only-then p (shut-only k t (coreIn (raisedCore cfgTimeout c) (h .bridge))))
-
--- ---- by all their arguments
-
-pub then : (k t : ℕ) (b x y : Bridge) → OnlyHere k t b x → OnlyHere k t x y → OnlyHere k t b y
-then k t b x y p q = only-then p q
-
-pub kept-then : (k t : ℕ) (h x y : Held) → Kept k t h x → Kept k t x y → Kept k t h y
-kept-then k t h x y p q = both-kept p q
-
-pub kept-bridge : (k t : ℕ) (h : Held) (b : Bridge) → OnlyHere k t (h .bridge) b → Kept k t h (held b (h .store))
-kept-bridge k t h b p = kept-by p
-
-pub failed-only : (k t : ℕ) (b : Bridge) (place : ℕ) (why : Cause) → OnlyHere k t b (failed k place why b)
-failed-only k t b place why = failed-leaves k place why b .only t

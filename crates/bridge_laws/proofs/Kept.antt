@@ -17,8 +17,7 @@ use Rattle.machine.specs.Memory.{piecesOf, readRefusal, claimed, readStep, read
 use Rattle.machine.proofs.Refusals.{read-ok}
 use Rattle.bridge_laws.specs.MemoryLaws.{AcceptedReadKeeps, RefusedRead, RefusedWrite}
 use Rattle.bridge_laws.proofs.Verbs.{claimed-alone}
-use Rattle.bridge_laws.proofs.Pieces.{opens-slot}
-pub use Rattle.bridge_laws.proofs.Pieces.{Opens, opens-all, tags-left}
+use Rattle.bridge_laws.proofs.Pieces.{opens-all, opens-slot}
 
 -- ---- refusals
 

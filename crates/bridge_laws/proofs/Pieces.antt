@@ -103,11 +103,6 @@ module _ (slot : ℕ) (q : Burst) (b : Bridge) where
   pub opens-all : (k : ℕ) → k ≤ available tagCount free → Opens k (readTo slot q b k)
   opens-all = each-piece slot q b Opens opens-none opens-one
 
--- k pieces take k tags
-pub tags-left : (slot : ℕ) (q : Burst) (b : Bridge) (k : ℕ) → k ≤ available tagCount (b .core .free)
-    → available tagCount (readTo slot q b k .core .free) + k ≡ available tagCount (b .core .free)
-tags-left slot q b k l = opens-all slot q b k l .left
-
 -- the tag of turn k
 pub turn-tag : (slot : ℕ) (q : Burst) (b : Bridge) (k : ℕ) → k < available tagCount (b .core .free) → lowest tagCount (readTo slot q b k .core .free) ≡ tagOf b k
 turn-tag slot q b k l = ap (lowest tagCount) (opens-all slot q b k (omega arith) .word) ∙ turn-takes tagCount (b .core .free) k l

@@ -39,9 +39,6 @@ refused-link up h l = rw (lt-ltb _ _ l)
 
 -- ---- one request that times out
 
-pub timed-kept : (h : Held) (t : ℕ) → storeSize ≤ length (h .store) → (z : Bool) → ltb (ownerOf (h .bridge) t) 8 ≡ z → Kept (ownerOf (h .bridge) t) t h (timedOut t h)
-timed-kept h t l z e = late-kept (timed-steps t h) l
-
 -- its tag has nothing missing any more
 late-missing : {t : ℕ} {h x : Held} → Late t h x → missingOf (x .bridge) t ≡ 0
 late-missing {t} {h} (memory m) =

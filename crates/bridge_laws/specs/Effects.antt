@@ -1,5 +1,6 @@
--- What each step of the machine changes, by rows and core, and that nothing else does. Each step is unfolded in the proofs of
--- these laws alone; every other law, and demand 3, goes by them.
+-- What each step of the machine changes, by rows and core, and that nothing else changes. A step is unfolded in the proofs of these
+-- laws and of what it leaves in tables of any length (proofs/Verbs, Steps, Serving, Dropping, and Turns for what takes turns);
+-- every other law, and demand 3, goes by them.
 use Prim.Native.Nat.{ℕ, _+_, _*_, _^_, _-_, _<_, _≤_}
 use mathlib.Core.Path.{_≡_}
 use mathlib.Core.Logic.{_≢_}
@@ -7,6 +8,7 @@ use mathlib.Core.List.{List}
 use mathlib.Core.Bool.{false}
 use lib.Seq.{paste}
 use Rattle.common.specs.Decode.{linkDownBit, cfgTimeout}
+use Rattle.bits.specs.Bits.{isSet}
 use Rattle.tags.specs.Tags.{lowest, available}
 use Rattle.burst.specs.declared.Burst.{Burst}
 use Rattle.burst.specs.Bursts.{lengthOf}
@@ -24,12 +26,12 @@ use Rattle.machine.specs.Completions.{Held, held, usefulBytes, failed, pieceClo
 use Rattle.machine.specs.Ticks.{timedOut, dropSlots, linkLost, linkIn, dropConfig}
 use Rattle.machine.specs.Take.{slotFreed}
 use Rattle.bridge_laws.specs.MemoryLaws.{Tables}
-use Rattle.bridge_laws.specs.Rows.{countedTag, shutTag, pendingTag, faultedSlot, closedSlot, waitingSlot, droppedSlot, freedSlot, freedCore, takenCore, closedStore, droppedTo}
+use Rattle.bridge_laws.specs.Rows.{Resting, countedTag, shutTag, pendingTag, faultedSlot, closedSlot, waitingSlot, droppedSlot, freedSlot, freedCore, takenCore, closedStore, droppedTo}
 
 -- ---- an effect
 
--- the row of tag t becomes f of it, that of slot k g of it, and the core c of it; every other row stays, and the settings. A k
--- of 8 or more is no read slot
+-- the row of tag t becomes f of it, that of slot k g of it, and the core c of it; every other row stays, the settings
+-- and the tables' lengths. A k of 8 or more is no read slot
 pub record Acts (t k : ℕ) (f : Tag → Tag) (g : Slot → Slot) (c : Core → Core) (b x : Bridge) : Type 0 where
   pub settings : x .settings ≡ b .settings
   pub tables : Tables x
@@ -145,6 +147,11 @@ pub data Expires (t : ℕ) (h x : Held) : Type 0 where
 
 abbrev pub TimedOutExpires : Type 0
 TimedOutExpires = (h : Held) (t : ℕ) → Tables (h .bridge) → t < tagCount → Expires t h (timedOut t h)
+
+-- 'At timeout it closes and its tag rests'
+abbrev pub TimeoutRests : Type 0
+TimeoutRests =
+    (h : Held) (t : ℕ) → Tables (h .bridge) → t < tagCount → isSet (h .bridge .core .free) t ≡ false → Resting (timedOut t h .bridge) t
 
 -- ---- a routed access
 

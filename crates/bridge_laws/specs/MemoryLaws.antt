@@ -23,11 +23,11 @@ use Rattle.burst.specs.declared.Burst.{Burst}
 use Rattle.burst.specs.declared.Piece.{Piece}
 use Rattle.burst.specs.Bursts.{burstNumber, lengthOf}
 use Rattle.burst.specs.Pieces.{addresses, pieces}
-use Rattle.burst.specs.Words.{wordAddress, wanted, wordsOf}
+use Rattle.burst.specs.Words.{wordAddress, lowerAddress, wanted, wordsOf}
 use Rattle.machine.specs.Bridge.{Bridge}
-use Rattle.machine.specs.State.{tagCount, slotCount, tagAt, slotAt, raise, freeSlot, refusal}
-use Rattle.machine.specs.Memory.{windowFor, pcieOf, piecesOf, pieceOf, placeIn, piecePending, memoryRequest, pieceRequest, packet, readRefusal, readBridge, readBytes, readStep, readArea, writeRefusal, writeBytes, writeStep, writeArea}
-use Rattle.bridge_laws.specs.Rows.{pendingTag, waitingSlot}
+use Rattle.machine.specs.State.{tagCount, slotCount, memoryRead, tagAt, slotAt, raise, freeSlot, refusal}
+use Rattle.machine.specs.Memory.{windowFor, pcieOf, piecesOf, pieceOf, placeIn, memoryRequest, pieceRequest, packet, readRefusal, readBridge, readBytes, readStep, readArea, writeRefusal, writeBytes, writeStep, writeArea}
+use Rattle.bridge_laws.specs.Rows.{waitingSlot}
 
 -- ## Behind the window
 
@@ -156,7 +156,14 @@ pub record ReadOpens (b : Bridge) (q : Burst) (c : Bridge) : Type 0 where
   pub tag :
       (k : ℕ) → k < piecesOf (b .settings .reads) q
       → tagAt c (tagOf b k)
-      ≡ pendingTag (b .core .ticks) (piecePending (freeSlot b) (b .settings) q (pieceOf (b .settings .reads) q k))
+      ≡ record {
+        missing = pieceOf (b .settings .reads) q k .length;
+        sent = b .core .ticks;
+        owner = freeSlot b;
+        place = placeIn q (pieceOf (b .settings .reads) q k);
+        next = lowerAddress (pcieOf (b .settings .windows) q (pieceOf (b .settings .reads) q k .first));
+        kind = memoryRead;
+      }
   pub slot : slotAt c (freeSlot b) ≡ waitingSlot (lengthOf q) (piecesOf (b .settings .reads) q)
 
 abbrev pub AcceptedReadOpens : Type 0

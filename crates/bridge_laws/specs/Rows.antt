@@ -9,7 +9,7 @@ use Rattle.tags.specs.Tags.{lowest}
 use Rattle.burst.specs.Words.{lowerAddress}
 use Rattle.parts.specs.declared.Core.{Core}
 use Rattle.parts.specs.declared.Pending.{Pending}
-use Rattle.machine.specs.State.{Bridge, Tag, Slot, missingOf, tagCount, slotSize, slotFree, slotOpen, slotFinished, okay, slverr, withFree}
+use Rattle.machine.specs.State.{Bridge, missingOf, Tag, Slot, tagCount, slotSize, slotFree, slotOpen, slotFinished, okay, slverr, withFree}
 use Rattle.machine.specs.Completions.{zeroed}
 
 -- ---- a tag is free, open (`Open`) or resting
@@ -17,9 +17,11 @@ use Rattle.machine.specs.Completions.{zeroed}
 abbrev pub Free : Bridge → ℕ → Type 0
 Free b t = isSet (b .core .free) t ≡ true
 
--- neither: its request timed out, and the link has not dropped since
+-- neither free nor open: its request timed out, and the link has not dropped since
 abbrev pub Resting : Bridge → ℕ → Type 0
 Resting b t = (isSet (b .core .free) t ≡ false) × (missingOf b t ≡ 0)
+
+-- ---- a tag's row
 
 -- n bytes more have come
 abbrev pub countedTag : ℕ → Tag → Tag
@@ -45,11 +47,12 @@ pendingTag now p =
 
 -- ---- a slot
 
--- a failure at a place is noted, where it is the least
+-- a failure at a place is noted
 abbrev pub notedSlot : ℕ → ℕ → Slot → Slot
 notedSlot place code s =
     record { state = s .state; size = s .size; pieces = s .pieces; fault = place; cause = code }
 
+-- where that place is the least
 abbrev pub faultedSlot : ℕ → ℕ → Slot → Slot
 faultedSlot place code s = cond (ltb place (s .fault)) (notedSlot place code s) s
 

@@ -1,4 +1,4 @@
--- And OKAY if its good completions came in time.
+-- An access is answered OKAY if its good completions came in time.
 pub mod Asks
 pub mod Good
 pub mod Due

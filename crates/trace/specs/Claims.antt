@@ -36,11 +36,12 @@ pub record AnsweredOkay (k : ℕ) (h : Held) : Type 0 where
   pub answered : Answered k h
   pub okay : releaseStep (h .bridge) (length (h .store)) k .answer .response ≡ Okay
 
--- 'taken means released': an event that takes slot k
+-- 'taken means released': slot k is taken by the release of slot j, if any, where it is accepted
 abbrev pub takenBy : ℕ → Held → Option ℕ → Bool
 takenBy k h none = false
 takenBy k h (some j) = eqb j k && eqb (takeRefusal (h .bridge) (length (h .store)) j) 0
 
+-- an event that takes slot k
 abbrev pub takes : ℕ → Held → Event → Bool
 takes k h (call c) = takenBy k h (releases c)
 takes k h (completion i s) = false

@@ -19,7 +19,8 @@ use Rattle.machine.specs.Ticks.{ticked, tickStep, linked, linkStep}
 use Rattle.machine.specs.Take.{takeRefusal, looked, releaseStep}
 
 -- what the bridge's user calls, with the arguments; of a lent sending area, its length. None of these brings a completion, ticks
--- or changes the link: a new such call is one more case here, and the far side, time and the link do not see it
+-- or changes the link: a new such call is a case here, in `posts`, `releases` and `called`, and in `askedBy` (FarSide); time, the
+-- link and the pairing of completions do not see it
 pub data Call : Type 0 where
   read : Burst → ℕ → Call
   write : Burst → List ℕ → ℕ → Call

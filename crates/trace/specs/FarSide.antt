@@ -40,7 +40,7 @@ askOf b q k =
           bytes (pcieOf (b .settings .windows) q (pieceOf (b .settings .reads) q k .first)) (pieceOf (b .settings .reads) q k .length);
     }
 
--- the requests that an event sends; `Sent` ties them to its bytes
+-- the requests that a call sends; `Sent` ties them to its bytes
 abbrev pub askedBy : Held → Call → List Ask
 askedBy h (read q room) =
     cond (eqb (readRefusal (h .bridge) q room) 0)
@@ -52,6 +52,7 @@ askedBy h (config a room) =
 askedBy h (look k) = []
 askedBy h (release k) = []
 
+-- no other event sends any
 abbrev pub asked : Held → Event → List Ask
 asked h (call c) = askedBy h c
 asked h (completion i s) = []

@@ -20,7 +20,7 @@ use Rattle.machine.specs.Completions.{storeSize, Held, held, memoryCompleted, c
 use Rattle.machine.specs.contracts.Expected.{Fits, Whole}
 use Rattle.machine.proofs.Judging.{verdict-fits, read-whole, open-room}
 use Rattle.bridge_laws.proofs.Effects.{memory-serves}
-use Rattle.bridge_laws.proofs.Keeping.{verdict-memory}
+use Rattle.bridge_laws.proofs.Coming.{verdict-memory}
 use Rattle.bridge_laws.proofs.Finished.{accepted-is-open}
 use Rattle.bridge_laws.proofs.Parts.{same-owner}
 use Rattle.trace.specs.Sound.{named, openIn, Sound}

@@ -19,21 +19,14 @@ use Rattle.bridge_laws.proofs.Parts.{same-place, same-owner}
 use Rattle.trace.proofs.Alike.Twin.{equal, unused, like-equal, Cores, tag-same, like-number, config-cores, freed-cores, raised-cores}
 use Rattle.trace.proofs.Alike.Stores.{Still, still, still-then, SameAt, Room, Gap, Shown, Pair, closed-shown, act-pair, put-still, put-same, gap-of, shown-still}
 use Rattle.parts.specs.declared.ConfigSlot.{ConfigSlot}
-use Rattle.verdict.specs.declared.Cause.{Cause}
-use Rattle.verdict.specs.declared.Cause.the-variants.{UnsupportedRequest, RequestRetry, CompleterAbort, Poison, Timeout}
+use Rattle.verdict.specs.declared.Cause.the-variants.{Poison}
 use Rattle.verdict.specs.declared.Verdict.{Verdict}
 use Rattle.verdict.specs.declared.Verdict.the-variants.{Good}
 use Rattle.machine.specs.Verdict.{causeResponse, causeBit}
 use Rattle.bridge_laws.proofs.Effects.{config-serves}
+pub use Rattle.trace.proofs.Soundness.Serving.{cause-not-okay}
 
 -- ---- a failed piece
-
-pub cause-not-okay : (why : Cause) → causeResponse why ≢ 0
-cause-not-okay UnsupportedRequest e = absurd (omega arith)
-cause-not-okay RequestRetry e = absurd (omega arith)
-cause-not-okay CompleterAbort e = absurd (omega arith)
-cause-not-okay Poison e = absurd (omega arith)
-cause-not-okay Timeout e = absurd (omega arith)
 
 -- a failure is noted if it is the first in address order
 faulted-by : (P : Slot → Type 0) (place code : ℕ) (s : Slot)

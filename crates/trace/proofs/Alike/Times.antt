@@ -1,13 +1,13 @@
 -- Two bridges alike stay alike under a tick.
-use Prim.Native.Nat.{ℕ, _+_, _<_, _≤_}
+use Prim.Native.Nat.{ℕ, _<_, _≤_}
 use mathlib.Core.Path.{_≡_, refl, sym, ap, _∙_, subst}
 use mathlib.Core.Logic.{_≢_}
-use mathlib.Core.Bool.{Bool, true, false, cond, not, _&&_}
+use mathlib.Core.Bool.{Bool, true, false, cond, _&&_}
 use native.Mathlib.Omega.{arith}
 use native.Mathlib.Decide.{ℕ-discrete}
 use lib.ListN.{length}
 use lib.Dec.{eqb, leb}
-use borrow.Author.Tests.{eqb-false, not-true, le-ltb}
+use borrow.Author.Tests.{le-ltb}
 use Rattle.common.proofs.Tests.{and-left}
 use Rattle.parts.specs.declared.ConfigSlot.{ConfigSlot}
 use Rattle.parts.specs.declared.Core.{Core}
@@ -30,6 +30,7 @@ use Rattle.trace.proofs.Soundness.Sound.{fine-of}
 use Rattle.trace.proofs.Alike.Twin.{equal, unused, like-equal, Twin, look-same, tag-same, config-cores, raised-cores, next-like}
 use Rattle.trace.proofs.Alike.Stores.{still, Pair, act-pair}
 use Rattle.trace.proofs.Alike.Pieces.{Failable, faulted-failable, Waits, fail-pair, cause-not-okay}
+pub use Rattle.trace.proofs.Soundness.Ticking.{test-open}
 
 -- ---- the slot of an open tag is in use, also while a tick closes tags in turn
 
@@ -80,9 +81,6 @@ ready-acts {t} {k} {g} {c} {b} {x} a f d r u m = by (ℕ-discrete u t)
         }
 
 -- ---- a tag that is open, and old, by the tests
-
-pub test-open : (m p : ℕ) → isOpen m p ≡ true → m ≢ 0
-test-open m p e = eqb-false _ _ (not-true _ (and-left (not (eqb m 0)) (leb (p + m) 4096) e))
 
 pub waits : (b : Bridge) (t : ℕ) → isOpen (missingOf b t) (placeOf b t) ≡ true → Ready b t → ownerOf b t < slotCount → Waits b t (ownerOf b t)
 waits b t e r l =

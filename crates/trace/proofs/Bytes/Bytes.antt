@@ -99,7 +99,7 @@ module _ (sent : ℕ → List (List ℕ)) (h : Held) (q : Burst) (room : ℕ) (s
         let o = opens-read sent h q room s e .slot in
         clean (record {
           slot = record { used = λ y. omega (arith, same-state o); cause = same-cause o; fault = same-fault o; size = same-size o };
-          mine = λ t m. mines t m (read-rows (h .bridge) q room (s .sizes) e .tags t);
+          mine = λ t m. mines t m (read-rows (h .bridge) q room (s .sizes) e t);
           whole = λ j g n. absurd (n (tagOf (h .bridge) j) (waits-at j g) (own-at j g));
         })
 

@@ -33,7 +33,6 @@ use Rattle.trace.proofs.Soundness.Fine.{state-below, owner-open, owner-
 use Rattle.trace.proofs.Soundness.Sound.{sound-step, run-sound, fine-of}
 use Rattle.trace.proofs.Tags.Comes.{open-missing}
 use Rattle.trace.proofs.Tags.Opened.{free-slot-free}
-use Rattle.trace.proofs.Bytes.Passing.{read-rows}
 use Rattle.trace.proofs.Bytes.Reading.{release-other}
 
 -- ---- states
@@ -89,7 +88,7 @@ module _ (k : ℕ) (h : Held) (g : Sound h) (done : stateOf (h .bridge) k ≡ 2)
   call-answer : (c : Call) (x : Held) → Move h (call c) x → takes k h (call c) ≡ false → AnswerSame k h x
   call-answer c x (idle r a l) u = row-answer k h (x .bridge) (λ l. refl) (λ e. refl)
   call-answer c x (reads {q = q} {room = room} f) u =
-      row-answer k h (x .bridge) (λ l. read-rows (h .bridge) q room (g .sizes) f .slots k (λ z. omega (arith, ap (λ (j : ℕ). getD (h .bridge .state) j 0) z, free-slot-free h q room g f, state-below (h .bridge) k l)))
+      row-answer k h (x .bridge) (λ l. accepted-read-keeps (h .bridge) q room f .slots k (λ z. omega (arith, ap (λ (j : ℕ). getD (h .bridge .state) j 0) z, free-slot-free h q room g f, state-below (h .bridge) k l)))
       (λ e. accepted-read-keeps (h .bridge) q room f .config)
   call-answer c x (locals {a = a} {room = room} w f r) u = row-answer k h (x .bridge) (λ l. refl) (λ e. busy e (passed (h .bridge .core) (routeOf (h .bridge) a) room f .free))
   call-answer c x (routes {a = a} {room = room} f o) u =

@@ -1,16 +1,16 @@
 -- Events that concern a read in nothing: of another slot's tag, another read, an access, a release.
-use Prim.Native.Nat.{ℕ, suc, _+_, _*_, _%_, _≤_, _<_}
+use Prim.Native.Nat.{ℕ, _+_, _*_, _%_, _≤_, _<_}
 use mathlib.Core.Path.{_≡_, refl, sym, ap, subst, _∙_}
 use mathlib.Core.Logic.{_≢_, _⊎_, inl, inr, ⊎-elim, by-cases}
-use mathlib.Core.List.{List, _∷_}
+use mathlib.Core.List.{List}
 use mathlib.Core.Bool.{true}
 use native.Mathlib.Omega.{arith}
 use native.Mathlib.Decide.{ℕ-discrete, decLt}
-use lib.ListN.{length, getD, drop, length-drop}
-use lib.Seq.{paste, drop-cons}
+use lib.ListN.{length, getD, drop}
+use lib.Seq.{paste}
 use Rattle.bits.specs.Bits.{isSet}
-use Rattle.tags.specs.Tags.{freeTags, lowest, available}
-use Rattle.tags.proofs.Tags.{lowest-is, take-first}
+use Rattle.tags.specs.Tags.{lowest}
+use Rattle.tags.proofs.Tags.{lowest-is}
 use Rattle.tlp.specs.declared.completion.Completion.{Completion}
 use Rattle.tlp.specs.declared.completion.CompletionRead.the-variants.{Header}
 use Rattle.burst.specs.declared.Burst.{Burst}
@@ -19,14 +19,12 @@ use Rattle.verdict.specs.declared.Cause.the-variants.{Poison, Timeout}
 use Rattle.verdict.specs.declared.Verdict.{Verdict}
 use Rattle.verdict.specs.declared.Verdict.the-variants.{Good}
 use Rattle.parts.specs.declared.Core.{Core}
-use Rattle.parts.specs.declared.Pending.{Pending}
-use Rattle.machine.specs.State.{Bridge, Tag, Slot, tagAt, slotAt, tagCount, coreIn, missingOf, ownerOf, placeOf, nextAddress, Open, opened, freeSlot}
-use Rattle.machine.specs.Memory.{piecesOf, readRefusal, readBridge, claimed}
+use Rattle.machine.specs.State.{Bridge, Tag, Slot, tagAt, slotAt, tagCount, coreIn, missingOf, ownerOf, placeOf, nextAddress, Open, freeSlot}
+use Rattle.machine.specs.Memory.{piecesOf, readRefusal, readBridge}
 use Rattle.machine.specs.Config.{Access, routeOf, goesOut, configRefusal, routedBridge}
 use Rattle.machine.specs.Verdict.{useful, memoryVerdict, causeResponse}
 use Rattle.machine.specs.Completions.{storeSize, Held, held, usefulBytes, completionOf}
 use Rattle.machine.specs.Take.{slotFreed}
-use Rattle.machine.proofs.Refusals.{read-ok}
 use Rattle.machine.proofs.Configs.{passed}
 use Rattle.machine.proofs.Judging.{never}
 use Rattle.bridge_laws.specs.MemoryLaws.{Tables, tagOf}
@@ -34,8 +32,10 @@ use Rattle.bridge_laws.specs.CompletionLaws.{BytesOnly}
 use Rattle.bridge_laws.specs.Rows.{faultedSlot}
 use Rattle.bridge_laws.specs.Effects.{Acts, Serves, good-part, good-last, poison-part, poison-last, fails, Expires, memory, config}
 use Rattle.bridge_laws.proofs.Parts.{same-owner}
-use Rattle.bridge_laws.proofs.Effects.{opened-acts, claimed-acts, released-acts, routed-acts}
-use Rattle.bridge_laws.proofs.Turns.{each-piece}
+use Rattle.bridge_laws.proofs.Effects.{released-acts, routed-acts}
+use Rattle.bridge_laws.proofs.ReadTurns.{each-turn}
+use Rattle.bridge_laws.proofs.Kept.{accepted-read-keeps}
+use Rattle.bridge_laws.proofs.Stores.{paste-only, closed-bytes}
 use Rattle.trace.specs.FarSide.{Wire, sending}
 use Rattle.trace.specs.Sound.{Sound}
 use Rattle.trace.proofs.Tags.Turn.{useful-length}
@@ -43,7 +43,7 @@ use Rattle.trace.proofs.Tags.Wire.{ownOf}
 use Rattle.trace.proofs.Tags.Asks.{own-kept}
 use Rattle.trace.proofs.Tags.Comes.{verdict-data}
 use Rattle.trace.proofs.Tags.Opened.{turns, turns-many, turn-is, free-slot-free, opens-read, sends-read, wordAsk}
-use Rattle.trace.proofs.Bytes.Put.{apart, only-none, only-then, put-only, closed-only}
+use Rattle.trace.proofs.Bytes.Put.{apart, only-none, only-then}
 use Rattle.trace.proofs.Bytes.Stage.{Waits, waits-same, BytesSame, Read, Aside}
 
 -- slot k, when its piece of tag t has failed
@@ -56,36 +56,11 @@ failedIn b k t why = faultedSlot (placeOf b t) (causeResponse why) (slotAt b k)
 abbrev pub Row : Bridge → ℕ → Bridge → ℕ → Type 0
 Row b i x u = (tagAt x u ≡ tagAt b u) ⊎ ((j : ℕ) × (j < i) × (tagOf b j ≡ u))
 
--- i pieces are opened
-pub record Turned (b : Bridge) (i : ℕ) (x : Bridge) : Type 0 where
-  pub tables : Tables x
-  pub left : freeTags tagCount (x .core .free) ≡ drop i (freeTags tagCount (b .core .free))
-  pub tags : (u : ℕ) → Row b i x u
-  pub slots : (k : ℕ) → k ≢ freeSlot b → slotAt x k ≡ slotAt b k
-
-turned-more : (b : Bridge) (p : Pending) (i : ℕ) (x : Bridge) → 0 < available tagCount (x .core .free) → Turned b i x → Turned b (suc i) (opened p x)
-turned-more b p i x m y =
-    let a = opened-acts 0 p x (y .tables) m in
-    let l = freeTags tagCount (b .core .free) in
-    let w = x .core .free in
-    let low : i < length l = omega (arith, ap length (y .left), length-drop i l) in
-    let cut : freeTags tagCount w ≡ tagOf b i ∷ drop (suc i) l = y .left ∙ drop-cons l i 0 low in
-    let t : lowest tagCount w ≡ tagOf b i = ap (λ (s : List ℕ). getD s 0 tagCount) cut in
-    record {
-      tables = a .tables;
-      left = ap (λ (c : Core). freeTags tagCount (c .free)) (a .core) ∙ take-first tagCount w (lowest tagCount w) (drop (suc i) l) (cut ∙ ap (λ (v : ℕ). v ∷ drop (suc i) l) (sym t));
-      tags = λ u. by-cases (ℕ-discrete u (lowest tagCount w)) (λ e. inr (i, omega arith, sym t ∙ sym e))
-          (λ d. ⊎-elim (λ e. inl (a .tags u d ∙ e)) (λ o. inr (o .0, omega (arith, o .1), o .2)) (y .tags u));
-      slots = λ k d. opened-acts k p x (y .tables) m .slot ∙ y .slots k d;
-    }
-
-pub read-rows : (b : Bridge) (q : Burst) (room : ℕ) → Tables b → readRefusal b q room ≡ 0 → Turned b (piecesOf (b .settings .reads) q) (readBridge b q)
+pub read-rows : (b : Bridge) (q : Burst) (room : ℕ) → Tables b → readRefusal b q room ≡ 0 → (u : ℕ) → Row b (piecesOf (b .settings .reads) q) (readBridge b q) u
 read-rows b q room v e =
-    let ok = read-ok b q room e in
-    let x = claimed (freeSlot b) q b in
-    let a = claimed-acts 0 (freeSlot b) q b v (ok .slot) in
-    let first : Turned b 0 x = record { tables = a .tables; left = ap (λ (c : Core). freeTags tagCount (c .free)) (a .core); tags = λ u. inl (claimed-acts u (freeSlot b) q b v (ok .slot) .tag); slots = a .slots } in
-    each-piece (freeSlot b) q x (Turned b) first (λ i y m s t. turned-more b _ i y m t) (piecesOf (b .settings .reads) q) (omega (arith, ok .tags, ap (λ (c : Core). available tagCount (c .free)) (a .core)))
+    each-turn b q room v e (λ i x. (u : ℕ) → Row b i x u) (λ x a u. inl (a u .tag))
+    (λ i x y l some t a p u. by-cases (ℕ-discrete u (lowest tagCount (x .core .free))) (λ z. inr (i, omega arith, sym t ∙ sym z))
+    (λ d. ⊎-elim (λ z. inl (a .tags u d ∙ z)) (λ o. inr (o .0, omega (arith, o .1), o .2)) (p u)))
 
 -- ---- effects
 
@@ -131,11 +106,11 @@ module _ (r : Read) (h : Held) (w : Wire) where
   -- ---- a timeout, or a completion, of another slot's tag
 
   pub expires-aside : (t : ℕ) (x : Held) → storeSize ≤ length (h .store) → ownerOf (h .bridge) t ≢ r .slot → Expires t h x → Aside r h x w w
-  expires-aside t x room n (memory l a p) = other-read x a refl n (same-owner (a .tag)) (rw p (closed-only (ownerOf (h .bridge) t) (failedIn (h .bridge) (ownerOf (h .bridge) t) t Timeout) (h .store) l room))
+  expires-aside t x room n (memory l a p) = other-read x a refl n (same-owner (a .tag)) (rw p (closed-bytes (ownerOf (h .bridge) t) (failedIn (h .bridge) (ownerOf (h .bridge) t) t Timeout) (h .store) l room))
   expires-aside t x room n (config l a p) = other-slot x (a (r .slot)) (a (r .slot) .slot) n (same-owner (a (r .slot) .tag)) (λ y l. rw p)
 
   pub expires-sizes : (t : ℕ) (x : Held) → storeSize ≤ length (h .store) → Expires t h x → Tables (x .bridge) × (storeSize ≤ length (x .store))
-  expires-sizes t x room (memory l a p) = (a .tables, omega (arith, ap length p, closed-only (ownerOf (h .bridge) t) (failedIn (h .bridge) (ownerOf (h .bridge) t) t Timeout) (h .store) l room .room))
+  expires-sizes t x room (memory l a p) = (a .tables, omega (arith, ap length p, closed-bytes (ownerOf (h .bridge) t) (failedIn (h .bridge) (ownerOf (h .bridge) t) t Timeout) (h .store) l room .room))
   expires-sizes t x room (config l a p) = (a 0 .tables, omega (arith, ap length p))
 
   module _ (s : List ℕ) (c : Completion) (e : completionOf s ≡ Header c) (sound : Sound h) (m : Open (h .bridge) (c .tag)) (k : ℕ) (l : k < 8) (o : ownerOf (h .bridge) (c .tag) ≡ k) (n : k ≢ r .slot) where
@@ -147,16 +122,16 @@ module _ (r : Read) (h : Held) (w : Wire) where
         let t = c .tag in
         let u = useful c (missingOf b t) in
         rw (verdict-data c (missingOf b t) (nextAddress b t) n (Good n) j (inl refl) .amount)
-        (put-only k (placeOf b t) u (h .store) (usefulBytes (c .lower % 4) u (drop 12 s)) l (omega (arith, sound .tags t m .whole)) (sound .room) (omega (arith, useful-length (missingOf b t) s c e)))
+        (paste-only k (placeOf b t) u (h .store) (usefulBytes (c .lower % 4) u (drop 12 s)) (omega (arith, sound .tags t m .whole)) (omega (arith, sound .tags t m .whole, sound .room)) (omega (arith, useful-length (missingOf b t) s c e)))
 
     pub serves-aside : (v : Verdict) (x : Held) → memoryVerdict c (missingOf (h .bridge) (c .tag)) (nextAddress (h .bridge) (c .tag)) ≡ v → Serves (c .tag) k (c .lower % 4) (drop 12 s) h x v → Aside r h x w w
     serves-aside v x j (good-part i y a p) = other-read x a o n (same-owner (a .tag)) (rw p (data-only i j))
     serves-aside v x j (good-last i y a p) =
         let q = data-only i j in
-        other-read x a o n (same-owner (a .tag)) (rw p (only-then q (closed-only k (slotAt (h .bridge) k) _ l (omega (arith, q .room, sound .room)))))
+        other-read x a o n (same-owner (a .tag)) (rw p (only-then q (closed-bytes k (slotAt (h .bridge) k) _ l (omega (arith, q .room, sound .room)))))
     serves-aside v x j (poison-part i y a p) = other-read x a o n (same-owner (a .tag)) (rw p (only-none k (h .store)))
-    serves-aside v x j (poison-last i y a p) = other-read x a o n (same-owner (a .tag)) (rw p (closed-only k (failedIn (h .bridge) k (c .tag) Poison) (h .store) l (sound .room)))
-    serves-aside v x j (fails why a p) = other-read x a o n (same-owner (a .tag)) (rw p (closed-only k (failedIn (h .bridge) k (c .tag) why) (h .store) l (sound .room)))
+    serves-aside v x j (poison-last i y a p) = other-read x a o n (same-owner (a .tag)) (rw p (closed-bytes k (failedIn (h .bridge) k (c .tag) Poison) (h .store) l (sound .room)))
+    serves-aside v x j (fails why a p) = other-read x a o n (same-owner (a .tag)) (rw p (closed-bytes k (failedIn (h .bridge) k (c .tag) why) (h .store) l (sound .room)))
 
   -- ---- calls
 
@@ -181,12 +156,12 @@ module _ (r : Read) (h : Held) (w : Wire) where
         let elsewhere : r .slot ≢ freeSlot b = λ z. used (ap (λ (y : ℕ). getD (b .state) y 0) z ∙ free-slot-free h q room s e) in
         let taken : (t : ℕ) → Waits (r .slot) b t → (j : ℕ) → j < piecesOf (b .settings .reads) q → tagOf b j ≢ t = λ t m j l. not-free t (tagOf b j) (sends-read (r .sent) h q room s e .free j l .free) m in
         record {
-          slot = p .slots (r .slot) elsewhere;
+          slot = accepted-read-keeps b q room e .slots (r .slot) elsewhere;
           bytes = λ y l. refl;
-          tags = λ t m. ⊎-elim (λ z. z) (λ o. absurd (taken t m (o .0) (o .1) (o .2))) (p .tags t);
+          tags = λ t m. ⊎-elim (λ z. z) (λ o. absurd (taken t m (o .0) (o .1) (o .2))) (p t);
           own = λ t m. own-kept (turns b q) w t (λ j l. let i : j < piecesOf (b .settings .reads) q = omega (arith, turns-many b q) in rw (turn-is b q j i) (taken t m j i));
           back = λ t m. ⊎-elim (λ z. waits-same (r .slot) x b t (sym z) m)
-              (λ o. absurd (elsewhere (sym (m .1) ∙ (ap (ownerOf x) (sym (o .2)) ∙ same-owner (opens-read (r .sent) h q room s e .tag (o .0) (o .1)))))) (p .tags t);
+              (λ o. absurd (elsewhere (sym (m .1) ∙ (ap (ownerOf x) (sym (o .2)) ∙ same-owner (opens-read (r .sent) h q room s e .tag (o .0) (o .1)))))) (p t);
         }
 
     pub word-aside : (a : Access) (room : ℕ) → configRefusal (h .bridge) a room ≡ 0 → goesOut (routeOf (h .bridge) a) ≡ true → Aside r h (held (routedBridge (h .bridge) a) (h .store)) w (sending w (wordAsk (h .bridge) a))

@@ -2,17 +2,13 @@
 use Prim.Native.Nat.{ℕ, _+_, _-_, _*_, _≤_, _<_}
 use mathlib.Core.Path.{_≡_, refl, sym, ap, subst, _∙_}
 use mathlib.Core.List.{List, _++_}
-use mathlib.Core.Logic.{_≢_, _⊎_, inl, inr, ⊎-elim, by-cases}
+use mathlib.Core.Logic.{_≢_, _⊎_, inl, inr, by-cases}
 use mathlib.Core.Bool.{Bool, true, false, cond}
 use native.Mathlib.Omega.{arith}
 use native.Mathlib.Decide.{decLt}
 use lib.ListN.{length, getD, take, drop, List·getD-append}
-use lib.Seq.{paste, length-paste, length-paste-head, drop-paste, getD-take, getD-drop, getD-append-add, length-take-le}
-use Rattle.machine.specs.State.{Slot}
-use Rattle.machine.specs.Completions.{storeSize}
-use Rattle.bridge_laws.specs.Rows.{closedStore}
+use lib.Seq.{paste, length-paste-head, drop-paste, getD-take, getD-drop, getD-append-add, length-take-le}
 use Rattle.bridge_laws.specs.CompletionLaws.{Outside, BytesOnly}
-use Rattle.bridge_laws.proofs.Stores.{closed-bytes}
 
 -- whichever way a test goes
 pub either : {A : Type 0} (P : A → Type 0) (z : Bool) {x y : A} → P x → P y → P (cond z x y)
@@ -52,15 +48,3 @@ only-then p q = record { room = q .room ∙ p .room; bytes = λ i o. q .bytes i 
 
 pub only-none : (k : ℕ) (d : List ℕ) → BytesOnly k d d
 only-none k d = record { room = refl; bytes = λ i o. refl }
-
--- bytes that lie in slot k
-pub put-only : (k p n : ℕ) (d s : List ℕ) → k < 8 → p + n ≤ 4096 → storeSize ≤ length d → n ≤ length s → BytesOnly k d (paste d (4096 * k + p) s n)
-put-only k p n d s m f l e =
-    record {
-      room = length-paste d (4096 * k + p) s n (omega arith) e;
-      bytes = λ i o. put-outside d (4096 * k + p) s n (omega arith) e i (⊎-elim (λ b. inl (omega arith)) (λ b. inr (omega arith)) o);
-    }
-
--- what closing a piece of slot k writes
-pub closed-only : (k : ℕ) (s : Slot) (d : List ℕ) → k < 8 → storeSize ≤ length d → BytesOnly k d (closedStore k s d)
-closed-only = closed-bytes

@@ -29,7 +29,7 @@ use Rattle.trace.specs.Sound.{Sound}
 use Rattle.trace.proofs.Soundness.View.{Move, idle, missed, reads, locals, routes, memories, configs, ticks, drops, links, releases, moves}
 use Rattle.trace.proofs.Soundness.Sound.{sound-step, fine-of}
 use Rattle.trace.proofs.Soundness.Fine.{tag-below, owner-open, state-below}
-use Rattle.trace.proofs.Tags.Wire.{Wired, own-comes, flow-later}
+use Rattle.trace.proofs.Tags.Wire.{Wired, present-comes, flow-later}
 use Rattle.trace.proofs.Tags.Comes.{open-missing}
 use Rattle.trace.proofs.Tags.Opened.{asked-read, asked-word}
 use Rattle.trace.proofs.Tags.Wired.{idle-wire, local-asks, step-wired}
@@ -105,7 +105,7 @@ module _ (r : Read) where
       let a = memory-serves h (c .tag) k (c .lower % 4) (drop 12 s) t (g .sizes) (tag-below (h .bridge) (c .tag) (g .sizes) m) l n in
       by-cases (ℕ-discrete k (r .slot))
       (λ z. receives r h w es s c f g (m, z) t x j (subst (λ (k : ℕ). Serves (c .tag) k (c .lower % 4) (drop 12 s) h x t) z a)
-      (subst (λ (i : ℕ). Stage r h w (event.completion i s ∷ es)) (own-comes (r .sent) h w label s c es y p f m) v))
+      (subst (λ (i : ℕ). Stage r h w (event.completion i s ∷ es)) (present-comes (r .sent) h w label s c es y p f) v))
       (λ z. pass (serves-aside r h w s c f g m k l refl z t x j a) v)
   move-stage h e x (configs {s = s} c t f d o l j n) eq w es g y p u v =
       let m = open-missing (missingOf (h .bridge) (c .tag)) (placeOf (h .bridge) (c .tag)) o in

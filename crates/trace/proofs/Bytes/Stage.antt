@@ -12,7 +12,6 @@ use Rattle.burst.specs.declared.Piece.{Piece}
 use Rattle.burst.specs.Bursts.{lengthOf}
 use Rattle.burst.proofs.Tiling.{piece-within}
 use Rattle.verdict.specs.declared.Cause.{Cause}
-use Rattle.verdict.specs.declared.Cause.the-variants.{UnsupportedRequest, RequestRetry, CompleterAbort, Poison, Timeout}
 use Rattle.machine.specs.State.{Bridge, Tag, Slot, tagAt, slotAt, ownerOf, Open}
 use Rattle.machine.specs.Memory.{piecesOf, pieceOf, placeIn}
 use Rattle.machine.specs.Verdict.{causeResponse}
@@ -23,6 +22,7 @@ use Rattle.trace.specs.Events.{Event}
 use Rattle.trace.specs.FarSide.{bytesSent, Wire}
 use Rattle.trace.proofs.Tags.Wire.{ownOf, Flow}
 use Rattle.trace.proofs.Bytes.Put.{either}
+use Rattle.trace.proofs.Soundness.Serving.{cause-not-okay}
 
 -- ---- its slot
 
@@ -46,13 +46,6 @@ closed-sane {n} {s} p =
     either (Sane n) (leb (s .pieces) 1)
     (record { used = λ e. omega arith; cause = p .cause; fault = p .fault; size = p .size })
     (record { used = p .used; cause = p .cause; fault = p .fault; size = p .size })
-
-not-okay : (why : Cause) → causeResponse why ≢ 0
-not-okay UnsupportedRequest e = omega arith
-not-okay RequestRetry e = omega arith
-not-okay CompleterAbort e = omega arith
-not-okay Poison e = omega arith
-not-okay Timeout e = omega arith
 
 pub open-dropped : (s : Slot) → s .state ≡ 1 → Spoilt (droppedSlot s)
 open-dropped s e = rw (eq-eqb (s .state) 1 e) (record { used = λ z. omega arith; cause = λ z. omega arith })
@@ -130,8 +123,8 @@ module _ (r : Read) where
 
   -- a failure spoils it
   pub fails : {h : Held} {w : Wire} {es : List Event} (at : ℕ) (why : Cause) → at < 4096 → Stage h w es → Spoilt (faultedSlot at (causeResponse why) (slotAt (h .bridge) (r .slot)))
-  fails {h} at why l (spoilt s) = either Spoilt (ltb at (slotAt (h .bridge) (r .slot) .fault)) (record { used = s .used; cause = not-okay why }) s
-  fails {h} at why l (clean c) = rw (lt-ltb at (slotAt (h .bridge) (r .slot) .fault) (omega (arith, c .slot .fault))) (record { used = c .slot .used; cause = not-okay why })
+  fails {h} at why l (spoilt s) = either Spoilt (ltb at (slotAt (h .bridge) (r .slot) .fault)) (record { used = s .used; cause = cause-not-okay why }) s
+  fails {h} at why l (clean c) = rw (lt-ltb at (slotAt (h .bridge) (r .slot) .fault) (omega (arith, c .slot .fault))) (record { used = c .slot .used; cause = cause-not-okay why })
 
   -- a piece lies in the burst
   pub inside : (j : ℕ) → j < count → place j + piece j .length ≤ lengthOf (r .burst)

@@ -12,14 +12,11 @@ use borrow.Author.Tests.{eqb-true}
 use Rattle.common.proofs.Tests.{row}
 use Rattle.parts.specs.declared.Core.{Core}
 use Rattle.parts.specs.declared.ConfigSlot.{ConfigSlot}
-use Rattle.verdict.specs.declared.Cause.the-variants.{UnsupportedRequest, RequestRetry, CompleterAbort, Poison, Timeout}
 use Rattle.verdict.specs.declared.Verdict.{Verdict}
-use Rattle.verdict.specs.declared.Verdict.the-variants.{Unexpected, Good, Poisoned, Failed}
-use Rattle.machine.specs.State.{Bridge, Tag, Slot, tagAt, slotAt, slotState, missingOf, sentOf, ownerOf, placeOf, isOpen, tagCount, Open, okay, slverr, withTicks, coreIn, withRegisters, withConfig}
+use Rattle.machine.specs.State.{Bridge, Tag, Slot, tagAt, slotAt, slotState, missingOf, sentOf, ownerOf, placeOf, isOpen, tagCount, Open, slverr, withTicks, coreIn, withRegisters, withConfig}
 use Rattle.machine.specs.Completions.{Held, held, configDone, configAnswer, isUnexpected, memoryCompleted, configCompleted}
 use Rattle.machine.specs.Ticks.{nextTick, ageOf, isOld, timedOut, expireTo, dropConfig, linkIn}
 use Rattle.machine.specs.Take.{stateOf}
-use Rattle.machine.proofs.Judging.{never}
 use Rattle.bridge_laws.specs.MemoryLaws.{Tables}
 use Rattle.bridge_laws.specs.Rows.{shutTag, faultedSlot, finishedSlot, closedSlot, freedCore}
 use Rattle.bridge_laws.specs.Effects.{Acts, same, Serves, good-part, good-last, poison-part, poison-last, fails, Expires, memory, config, Lost}
@@ -37,6 +34,7 @@ use Rattle.trace.proofs.Tags.Comes.{open-missing}
 use Rattle.trace.proofs.Soundness.Sound.{fine-of}
 use Rattle.trace.proofs.Deadline.Spares.{acts-spares, OpenRow, OpenFor, Busy, Goes, Spares, state-by, state-same, goes-then, spares-then, core-spares, spares-goes, still}
 use Rattle.trace.proofs.Deadline.Calls.{call-spares}
+use Rattle.trace.proofs.Soundness.Serving.{answer-done}
 
 -- tag t, of slot j, is served or closed: its owner and the tick of its sending stay, and its slot stays open or is finished
 pub record Served (t j : ℕ) (b x : Bridge) : Type 0 where
@@ -116,18 +114,6 @@ config-served : {t : ℕ} {c : Core → Core} {b x : Bridge} → Acts t 8 shutTa
 config-served {t} {b = b} {x = x} a z e f =
     subst (λ j. Served t j b x) (sym z)
     (acts-served a refl refl (λ y. inr (state-config x ∙ (ap (λ (d : Core). d .config .state) (a .core) ∙ f))) e (λ n. absurd (n refl)))
-
--- its slot is finished by any verdict
-answer-done : (c : ConfigSlot) (payload : List ℕ) (v : Verdict) → isUnexpected v ≡ false → configAnswer c payload v .state ≡ 2
-unfolding configAnswer
-answer-done c payload Unexpected e = never e
-answer-done c payload (Good n) e = refl
-answer-done c payload (Poisoned n) e = refl
-answer-done c payload (Failed UnsupportedRequest) e = one-of (λ (y : ConfigSlot). y .state ≡ 2) (c .write) (configDone c slverr 0) (configDone c okay 0xFFFFFFFF) refl refl
-answer-done c payload (Failed RequestRetry) e = refl
-answer-done c payload (Failed CompleterAbort) e = refl
-answer-done c payload (Failed Poison) e = refl
-answer-done c payload (Failed Timeout) e = refl
 
 -- so it is for an open tag
 module _ (h : Held) (t : ℕ) (v : Sound h) (o : Open (h .bridge) t) where

@@ -30,7 +30,7 @@ use Rattle.trace.specs.FarSide.{Wire, wireAfter, PairedBy, Paired, paire
 use Rattle.trace.specs.Claims.{goodBytes, anyGoodWord, isTick, isDown}
 use Rattle.trace.specs.Sound.{Sound}
 use Rattle.trace.proofs.Soundness.View.{Move, missed, memories, configs, links}
-use Rattle.trace.proofs.Tags.Wire.{At, ownOf, Wired, own-comes, paired-own, paired-other}
+use Rattle.trace.proofs.Tags.Wire.{At, ownOf, Wired, present-comes, paired-own, paired-other}
 use Rattle.trace.proofs.Tags.Comes.{open-missing}
 use Rattle.trace.proofs.Deadline.Spares.{OpenRow, OpenFor, Spares, core-spares}
 use Rattle.trace.proofs.Deadline.Calls.{call-spares}
@@ -104,7 +104,7 @@ module _ (k r : ℕ) where
       -- it comes for its tag, and for no other
       own : Open b t → before t ≡ s ∷ after t
       own m =
-          subst (λ j. paired (ownOf (w .live) t) (event.completion j s ∷ es) ≡ s ∷ after t) (sym (own-comes sent h w i s c es d p reads m))
+          subst (λ j. paired (ownOf (w .live) t) (event.completion j s ∷ es) ≡ s ∷ after t) (sym (present-comes sent h w i s c es d p reads))
           (paired-own (ownOf (w .live) t) s c es reads)
 
       elsewhere : (u : ℕ) → Open b u → u ≢ t → before u ≡ after u

@@ -1,4 +1,4 @@
--- Every step keeps the length of the store.
+-- The store keeps its length: a piece is closed, a slot dropped, a completion comes.
 use Prim.Native.Nat.{ℕ, _≤_, _<_}
 use mathlib.Core.Path.{_≡_, refl, ap, _∙_}
 use mathlib.Core.List.{List}

@@ -1,11 +1,11 @@
 -- What holds of every state that a list of events reaches.
-use Prim.Native.Nat.{ℕ, zero, suc, _%_, _≤_, _<_}
+use Prim.Native.Nat.{ℕ, _%_, _≤_, _<_}
 use mathlib.Core.Path.{_≡_, refl, sym, _∙_}
 use mathlib.Core.Logic.{_⊎_, inl, inr}
 use mathlib.Core.List.{List, [], _∷_}
 use mathlib.Core.Bool.{Bool, true, false, not, _&&_}
 use native.Mathlib.Omega.{arith}
-use lib.ListN.{length, getD, replicate, drop, length-replicate}
+use lib.ListN.{length, drop, length-replicate}
 use lib.Dec.{eqb}
 use borrow.Author.Tests.{eqb-true, le-ltb}
 use Rattle.address.specs.declared.Settings.{Settings}
@@ -18,6 +18,7 @@ use Rattle.machine.specs.Take.{stateOf, takeRefusal}
 use Rattle.machine.proofs.Judging.{never}
 use Rattle.bridge_laws.proofs.TakeLaws.{passed}
 use Rattle.bridge_laws.proofs.Effects.{memory-serves, drop-loses}
+use Rattle.bridge_laws.proofs.Rows.{zeros}
 use Rattle.trace.specs.Events as event
 use Rattle.trace.specs.Events.{Event, step, run, start}
 use Rattle.trace.specs.Sound.{Sound, RunIsSound}
@@ -112,17 +113,12 @@ sound-run : (h : Held) (es : List Event) → Sound h → Sound (run h es)
 sound-run h [] v = v
 sound-run h (e ∷ es) v = sound-run (step h e .after) es (sound-step h e v)
 
-no-entry : (n t : ℕ) → _≡_ {A = ℕ} (getD (replicate n 0) t 0) 0
-no-entry zero t = refl
-no-entry (suc n) zero = refl
-no-entry (suc n) (suc t) = no-entry n t
-
 fresh-fine : (s : Settings) → settingsNumber s ≡ 0 → Whole (freshBridge s)
 unfolding freshBridge freshCore
 fresh-fine s e =
-    idle-fine (freshBridge s) (λ k l z. omega (arith, no-entry 8 k)) (λ z. omega arith) e
-    (omega (arith, length-replicate {A = ℕ} tagCount 0, length-replicate {A = ℕ} slotCount 0)) (omega arith) (refl, no-entry tagCount)
-    (λ k l z. absurd (z (no-entry 8 k)))
+    idle-fine (freshBridge s) (λ k l z. omega (arith, zeros 8 k)) (λ z. omega arith) e
+    (omega (arith, length-replicate {A = ℕ} tagCount 0, length-replicate {A = ℕ} slotCount 0)) (omega arith) (refl, zeros tagCount)
+    (λ k l z. absurd (z (zeros 8 k)))
 
 new-sound : (s : Settings) (store : List ℕ) → storeSize ≤ length store → Sound (start s store)
 unfolding newBridge refused refusalChange

@@ -36,7 +36,7 @@ use Rattle.trace.specs.Events.{Call, Event, called, step}
 use Rattle.trace.specs.FarSide.{askedBy}
 use Rattle.trace.proofs.Soundness.Cases.{by-test}
 
--- the bridge with other registers, the link as it was
+-- the bridge with other registers
 abbrev pub registered : Held → Registers → Held
 registered h r = held (coreIn (withRegisters r (h .bridge .core)) (h .bridge)) (h .store)
 
