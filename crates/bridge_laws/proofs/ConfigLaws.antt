@@ -117,7 +117,7 @@ opens b a h =
       config = ap (λ (c : Core). c .config) (r .core);
       free = ap (λ (c : Core). c .free) (r .core);
       fewer = rw (r .core) (take-one-less tagCount (b .core .free) t (lowest-is tagCount (b .core .free) h .tag));
-      slots = λ k. rw (r .state, r .size, r .pieces, r .fault, r .cause);
+      slots = r .slots;
       others = r .tags;
       tag = λ v. routed-acts b a 0 v h .tag;
     }

@@ -17,7 +17,6 @@ use Rattle.machine.specs.State.{slotAt, raise, missingOf, ownerOf, placeOf, isO
 use Rattle.machine.specs.Completions.{storeSize, Held, held, verdictOf, completionOf, isUnexpected, readRefused, completeRefusal}
 use Rattle.bridge_laws.specs.CompletionLaws.{Came, short, malformed, lost, memory, config, Kept, Accepted, AcceptedIsOpen, SlotSame, slotOf, AnswerSame, FinishedStays}
 use Rattle.bridge_laws.proofs.Rows.{either}
-use Rattle.bridge_laws.proofs.Parts.{same-state, same-size, same-pieces, same-fault, same-cause}
 use Rattle.bridge_laws.proofs.Cores.{raised-core}
 use Rattle.bridge_laws.proofs.Coming.{verdict-open, came-one-way}
 use Rattle.bridge_laws.proofs.Stores.{other-slot}
@@ -39,21 +38,12 @@ accepted-is-open b room s =
 -- ---- one slot of two
 
 pub kept-slot : (j k t : ℕ) (h x : Held) → j ≢ k → Kept k t h x → SlotSame j h x
-kept-slot j k t h x n p =
-    record {
-      state = p .here .state j n;
-      size = ap (λ (l : List ℕ). getD l j 0) (p .here .size);
-      pieces = p .here .pieces j n;
-      fault = p .here .fault j n;
-      cause = p .here .cause j n;
-      bytes = other-slot (p .store) j n;
-    }
+kept-slot j k t h x n p = record { row = p .here .slots j n; bytes = other-slot (p .store) j n }
 
 -- the row is, and the bytes are
 pub slot-same : (j : ℕ) (h x : Held) → slotAt (x .bridge) j ≡ slotAt (h .bridge) j
     → ((i : ℕ) → i < 4096 → getD (x .store) (4096 * j + i) 0 ≡ getD (h .store) (4096 * j + i) 0) → SlotSame j h x
-slot-same j h x e f =
-    record { state = same-state e; size = same-size e; pieces = same-pieces e; fault = same-fault e; cause = same-cause e; bytes = f }
+slot-same j h x e f = record { row = e; bytes = f }
 
 pub slot-then : (j : ℕ) (h x y : Held) → SlotSame j h x → SlotSame j x y → SlotSame j h y
 slot-then j h x y p q = search (_∙_, q .bytes, p .bytes)

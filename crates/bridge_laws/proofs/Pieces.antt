@@ -44,11 +44,7 @@ module _ (slot : ℕ) (q : Burst) (b : Bridge) where
     pub registers : x .core .registers ≡ b .core .registers
     pub ticks : x .core .ticks ≡ b .core .ticks
     pub config : x .core .config ≡ b .core .config
-    pub state : x .state ≡ b .state
-    pub size : x .size ≡ b .size
-    pub pieces : x .pieces ≡ b .pieces
-    pub fault : x .fault ≡ b .fault
-    pub cause : x .cause ≡ b .cause
+    pub slots : (j : ℕ) → slotAt x j ≡ slotAt b j
     -- tags that are not free stay
     pub used : (t : ℕ) → isSet free t ≡ false → isSet (x .core .free) t ≡ false
     pub tags : (t : ℕ) → isSet free t ≡ false → tagAt x t ≡ tagAt b t
@@ -68,11 +64,7 @@ module _ (slot : ℕ) (q : Burst) (b : Bridge) where
     registers = ap (λ (c : Core). c .registers) (a .core) ∙ p .registers;
     ticks = ap (λ (c : Core). c .ticks) (a .core) ∙ p .ticks;
     config = ap (λ (c : Core). c .config) (a .core) ∙ p .config;
-    state = a .state ∙ p .state;
-    size = a .size ∙ p .size;
-    pieces = a .pieces ∙ p .pieces;
-    fault = a .fault ∙ p .fault;
-    cause = a .cause ∙ p .cause;
+    slots = λ j. a .slots j ∙ p .slots j;
     used = λ t f. ap (λ v. isSet v t) taken ∙ (clear-clears w (lowest tagCount w) .others t (other w t m (p .used t f)) ∙ p .used t f);
     tags = λ t f. a .tags t (other w t m (p .used t f)) ∙ p .tags t f;
     tables = λ v. opened-acts slot (pending i) x (p .tables v) m .tables;
@@ -109,4 +101,4 @@ turn-tag slot q b k l = ap (lowest tagCount) (opens-all slot q b k (omega arith)
 
 -- the slots' rows
 pub opens-slot : {slot : ℕ} {q : Burst} {b : Bridge} {i : ℕ} {x : Bridge} → Opens slot q b i x → (j : ℕ) → slotAt x j ≡ slotAt b j
-opens-slot o j = rw (o .state, o .size, o .pieces, o .fault, o .cause)
+opens-slot o j = o .slots j

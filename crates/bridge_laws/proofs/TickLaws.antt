@@ -20,7 +20,7 @@ use Rattle.machine.specs.Take.{stateIn, stateOf}
 use Rattle.bridge_laws.specs.CompletionLaws.{Kept, BytesOnly, slotOf, Unawaited, AnswerSame}
 use Rattle.bridge_laws.specs.TickLaws.{RefusedTick, RefusedLink, TickStays, LinkStays}
 use Rattle.bridge_laws.proofs.Rows.{either}
-use Rattle.bridge_laws.proofs.Parts.{same-missing, same-state}
+use Rattle.bridge_laws.proofs.Parts.{same-missing, same-place, same-state}
 use Rattle.bridge_laws.proofs.Verbs.{shut-tag, piece-leaves}
 use Rattle.bridge_laws.proofs.Steps.{Late, memory, config, timed-steps}
 use Rattle.bridge_laws.proofs.Dropping.{drop, drop-store, drop-idle, lost-slot, lost-config}
@@ -57,7 +57,7 @@ timed-apart h t j l f u e = go (ℕ-discrete u t)
 
     go : Dec (u ≡ t) → slotOf (timedOut t h .bridge) u ≢ j
     go (yes w) = not-open _ _ (ap (missingOf (timedOut t h .bridge)) w ∙ late-missing (timed-steps t h)) e
-    go (no w) = λ o. f u (rw (p .here .missing u w, p .here .place u w) at e) (rw (p .here .owner) at o)
+    go (no w) = λ o. f u (rw (same-missing (p .here .tags u w), same-place (p .here .tags u w)) at e) (rw (p .here .owner) at o)
 
 -- ---- a tick
 
@@ -100,7 +100,7 @@ dropped-stays h j l o = each-slot (λ n. AnswerSame j h) h (answer-same j h) (λ
         answer-then j h x (dropSlot x n) p
         (record {
           slot = λ s.
-              let d : j ≢ n = λ e. o s (sym (p .slot s .state) ∙ (ap (slotState (x .bridge)) e ∙ eqb-true _ _ z)) in
+              let d : j ≢ n = λ e. o s (sym (same-state (p .slot s .row)) ∙ (ap (slotState (x .bridge)) e ∙ eqb-true _ _ z)) in
               slot-same j x (dropSlot x n) (a .slots j d) (other-slot b j d);
           config = λ e. ap (λ (c : Core). c .config) (a .core);
           room = b .room;

@@ -118,7 +118,7 @@ released-acts t k b v = (
 -- ---- what they leave as it is, whatever the tables' lengths
 
 pub only-then : {k t : ℕ} {b x y : Bridge} → OnlyHere k t b x → OnlyHere k t x y → OnlyHere k t b y
-only-then p q = search (_∙_, q .missing, p .missing, q .place, p .place, q .next, p .next, q .state, p .state, q .pieces, p .pieces, q .fault, p .fault, q .cause, p .cause, q .config, p .config)
+only-then p q = search (_∙_, q .tags, p .tags, q .slots, p .slots, q .config, p .config)
 
 -- the core alone
 pub core-only : (k t : ℕ) (b : Bridge) (c : Core) → c .ticks ≡ b .core .ticks → (k < slotCount → c .config ≡ b .core .config) → OnlyHere k t b (coreIn c b)
@@ -159,11 +159,7 @@ pub record Takes (b x : Bridge) : Type 0 where
   pub settings : x .settings ≡ b .settings
   pub core : x .core ≡ takenCore (b .core)
   pub tags : (u : ℕ) → u ≢ lowest tagCount (b .core .free) → tagAt x u ≡ tagAt b u
-  pub state : x .state ≡ b .state
-  pub size : x .size ≡ b .size
-  pub pieces : x .pieces ≡ b .pieces
-  pub fault : x .fault ≡ b .fault
-  pub cause : x .cause ≡ b .cause
+  pub slots : (j : ℕ) → slotAt x j ≡ slotAt b j
 
 pub opened-takes : (r : Pending) (b : Bridge) → Takes b (opened r b)
 unfolding opened

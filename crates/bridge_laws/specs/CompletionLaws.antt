@@ -14,15 +14,11 @@ use Rattle.refusals.specs.Table.{refusedBy, completionOrder}
 use Rattle.machine.specs.Bridge.{Bridge}
 use Rattle.verdict.specs.declared.Verdict.{Verdict}
 use Rattle.verdict.specs.declared.Verdict.the-variants.{Unexpected, Good, Poisoned}
-use Rattle.machine.specs.State.{slotCount, configSlot, raise, missingOf, ownerOf, placeOf, isOpen, isWrite}
+use Rattle.machine.specs.State.{tagAt, slotAt, slotCount, configSlot, raise, missingOf, ownerOf, placeOf, isOpen, isWrite}
 use Rattle.machine.specs.Verdict.{useful, memoryVerdict, configVerdict}
 use Rattle.machine.specs.Completions.{storeSize, Held, held, memoryCompleted, configCompleted, nextAddress, verdictOf, completionOf, isUnexpected, completeRefusal, completed}
 
 -- ---- what a completion leaves as it is
-
--- two lists are the same but at one place
-abbrev pub Elsewhere : ℕ → List ℕ → List ℕ → Type 0
-Elsewhere t l m = (u : ℕ) → u ≢ t → getD m u 0 ≡ getD l u 0
 
 -- a byte of the store that is none of slot k's
 abbrev pub Outside : ℕ → ℕ → Type 0
@@ -37,13 +33,8 @@ pub record OnlyHere (k t : ℕ) (b x : Bridge) : Type 0 where
   pub owner : x .owner ≡ b .owner
   pub kind : x .kind ≡ b .kind
   pub size : x .size ≡ b .size
-  pub missing : Elsewhere t (b .missing) (x .missing)
-  pub place : Elsewhere t (b .place) (x .place)
-  pub next : Elsewhere t (b .next) (x .next)
-  pub state : Elsewhere k (b .state) (x .state)
-  pub pieces : Elsewhere k (b .pieces) (x .pieces)
-  pub fault : Elsewhere k (b .fault) (x .fault)
-  pub cause : Elsewhere k (b .cause) (x .cause)
+  pub tags : (u : ℕ) → u ≢ t → tagAt x u ≡ tagAt b u
+  pub slots : (j : ℕ) → j ≢ k → slotAt x j ≡ slotAt b j
 
 -- two stores are as long as each other, and the same but for slot k's bytes
 pub record BytesOnly (k : ℕ) (s x : List ℕ) : Type 0 where
@@ -86,11 +77,7 @@ AcceptedIsOpen = (b : Bridge) (room : ℕ) (s : List ℕ) → completeRefusal b 
 
 -- slot j's parts and its 4,096 bytes are the same
 pub record SlotSame (j : ℕ) (h x : Held) : Type 0 where
-  pub state : getD (x .bridge .state) j 0 ≡ getD (h .bridge .state) j 0
-  pub size : getD (x .bridge .size) j 0 ≡ getD (h .bridge .size) j 0
-  pub pieces : getD (x .bridge .pieces) j 0 ≡ getD (h .bridge .pieces) j 0
-  pub fault : getD (x .bridge .fault) j 0 ≡ getD (h .bridge .fault) j 0
-  pub cause : getD (x .bridge .cause) j 0 ≡ getD (h .bridge .cause) j 0
+  pub row : slotAt (x .bridge) j ≡ slotAt (h .bridge) j
   pub bytes : (i : ℕ) → i < 4096 → getD (x .store) (4096 * j + i) 0 ≡ getD (h .store) (4096 * j + i) 0
 
 -- the slot that the answer of a tag's request goes to

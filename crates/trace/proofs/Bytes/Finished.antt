@@ -18,10 +18,10 @@ use Rattle.machine.specs.Completions.{Held, held}
 use Rattle.machine.specs.Take.{stateIn, stateOf, takeRefusal, looked, slotFreed, releaseStep}
 use Rattle.machine.proofs.Configs.{passed}
 use Rattle.bridge_laws.specs.CompletionLaws.{slotOf, Unawaited, AnswerSame}
-use Rattle.bridge_laws.proofs.Parts.{same-state, same-size, same-pieces, same-fault, same-cause}
+use Rattle.bridge_laws.proofs.Parts.{same-state, same-size, same-cause}
 use Rattle.bridge_laws.proofs.Effects.{released-acts, routed-acts}
 use Rattle.bridge_laws.proofs.Kept.{accepted-read-keeps}
-use Rattle.bridge_laws.proofs.Finished.{answer-same, answer-then, finished-stays}
+use Rattle.bridge_laws.proofs.Finished.{slot-same, answer-same, answer-then, finished-stays}
 use Rattle.bridge_laws.proofs.TickLaws.{tick-stays, link-stays}
 use Rattle.bridge_laws.proofs.TakeLaws as take
 use Rattle.trace.specs.Events.{Call, Event, call, completion, tick, link, step, run, start}
@@ -67,7 +67,7 @@ unawaited h k s n t o e =
 row-answer : (k : ℕ) (h : Held) (x : Bridge) → (k < 8 → slotAt x k ≡ slotAt (h .bridge) k) → (k ≡ 8 → x .core .config ≡ h .bridge .core .config) → AnswerSame k h (held x (h .store))
 row-answer k h x e f =
     record {
-      slot = λ l. let y = e l in record { state = same-state y; size = same-size y; pieces = same-pieces y; fault = same-fault y; cause = same-cause y; bytes = λ i g. refl };
+      slot = λ l. slot-same k h (held x (h .store)) (e l) (λ i g. refl);
       config = f;
       room = refl;
       beyond = λ i l. refl;
@@ -107,7 +107,7 @@ module _ (k : ℕ) (h : Held) (g : Sound h) (done : stateOf (h .bridge) k ≡ 2)
 -- it stays finished
 state-stays : (k : ℕ) (h x : Held) → stateOf (h .bridge) k ≡ 2 → AnswerSame k h x → stateOf (x .bridge) k ≡ 2
 state-stays k h x e a =
-    by-cases (decLt k 8) (λ l. omega (arith, state-below (x .bridge) k l, a .slot l .state, state-below (h .bridge) k l)) (λ n.
+    by-cases (decLt k 8) (λ l. omega (arith, state-below (x .bridge) k l, same-state (a .slot l .row), state-below (h .bridge) k l)) (λ n.
     let z : k ≡ 8 = omega (arith, in-range (h .bridge) k e) in
     omega (arith, state-config (x .bridge) k z, ap (λ (c : ConfigSlot). c .state) (a .config z), state-config (h .bridge) k z))
 
@@ -130,8 +130,8 @@ module _ (k : ℕ) (h x : Held) (p : AnswerSame k h x) (a : Answered k h) (b : A
   shown-look (yes l) =
       let i = take.look-at-slot (h .bridge) (h .store) k a l in
       let j = take.look-at-slot (x .bridge) (x .store) k b l in
-      ext-getD 0 (looked (x .bridge) (x .store) k) (looked (h .bridge) (h .store) k) (omega (arith, i .size, j .size, p .slot l .size))
-      (λ y m. let c : y < sizeOf (x .bridge) k = omega (arith, j .size) in j .at y c ∙ (p .slot l .bytes y (omega arith) ∙ sym (i .at y (omega (arith, p .slot l .size)))))
+      ext-getD 0 (looked (x .bridge) (x .store) k) (looked (h .bridge) (h .store) k) (omega (arith, i .size, j .size, same-size (p .slot l .row)))
+      (λ y m. let c : y < sizeOf (x .bridge) k = omega (arith, j .size) in j .at y c ∙ (p .slot l .bytes y (omega arith) ∙ sym (i .at y (omega (arith, same-size (p .slot l .row))))))
   shown-look (no n) =
       let e = config-slot (omega arith) in
       ap (looked (x .bridge) (x .store)) e ∙ (take.look-at-config (x .bridge) (x .store) ∙ (sym (take.look-at-config (h .bridge) (h .store)) ∙ ap (looked (h .bridge) (h .store)) (sym e)))
@@ -140,7 +140,7 @@ module _ (k : ℕ) (h x : Held) (p : AnswerSame k h x) (a : Answered k h) (b : A
   unfolding releaseStep
   shown-release true z =
       rw (eq-eqb (takeRefusal (x .bridge) (length (x .store)) k) 0 b, eq-eqb (takeRefusal (h .bridge) (length (h .store)) k) 0 a, z)
-      (ap (λ (n : ℕ). accepted (responseOf n) 0 0 0) (p .slot (ltb-true k 8 z) .cause))
+      (ap (λ (n : ℕ). accepted (responseOf n) 0 0 0) (same-cause (p .slot (ltb-true k 8 z) .row)))
   shown-release false z =
       rw (eq-eqb (takeRefusal (x .bridge) (length (x .store)) k) 0 b, eq-eqb (takeRefusal (h .bridge) (length (h .store)) k) 0 a, z)
       (ap (λ (c : ConfigSlot). accepted (responseOf (c .response)) 0 0 (c .word)) (p .config (config-slot (ltb-false k 8 z))))
