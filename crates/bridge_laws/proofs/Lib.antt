@@ -33,5 +33,6 @@ pub mod Finished
 pub mod Goodness
 pub mod Counting
 pub mod TickLaws
+pub mod Resting
 pub mod CompletionExamples
 pub mod Examples

@@ -2,11 +2,9 @@
 use Prim.Native.Nat.{ℕ, _+_, _*_, _≤_, _<_}
 use mathlib.Core.Path.{_≡_, refl, ap, _∙_}
 use mathlib.Core.List.{List}
-use mathlib.Core.Bool.{false}
 use native.Mathlib.Omega.{arith}
 use lib.Seq.{paste}
 use Rattle.common.specs.Decode.{cfgTimeout}
-use Rattle.bits.specs.Bits.{isSet}
 use Rattle.tags.specs.Tags.{lowest}
 use Rattle.parts.specs.declared.Core.{Core}
 use Rattle.verdict.specs.declared.Cause.{Cause}
@@ -18,10 +16,8 @@ use Rattle.machine.specs.Config.{Access, configClaimed, routedBridge, wordPendi
 use Rattle.machine.specs.Completions.{Held, held, usefulBytes, failed, closed, configCompleted, configAnswer, configDone}
 use Rattle.bridge_laws.specs.MemoryLaws.{Tables}
 use Rattle.bridge_laws.specs.CompletionLaws.{OnlyHere}
-use Rattle.bridge_laws.specs.Rows.{Resting, shutTag, faultedSlot, closedSlot, freedCore, closedStore}
-use Rattle.bridge_laws.specs.Effects.{Acts, same, Serves, good-part, good-last, poison-part, poison-last, fails, MemoryServes, ConfigServes, Expires, memory, config, TimedOutExpires, TimeoutRests, RoutedActs}
-use Rattle.bridge_laws.proofs.Parts.{same-missing}
-use Rattle.bridge_laws.proofs.Cores.{raised-core}
+use Rattle.bridge_laws.specs.Rows.{shutTag, faultedSlot, closedSlot, freedCore, closedStore}
+use Rattle.bridge_laws.specs.Effects.{Acts, same, Serves, good-part, good-last, poison-part, poison-last, fails, MemoryServes, ConfigServes, Expires, memory, config, TimedOutExpires, RoutedActs}
 use Rattle.bridge_laws.proofs.Verbs.{Takes, opened-takes, then, after, core-acts, counted-acts, shut-acts, freed-acts, opened-acts, failed-acts, piece-closed, only-then, core-only, shut-only, freed-only}
 use Rattle.bridge_laws.proofs.Steps as steps
 
@@ -108,10 +104,3 @@ expires t h v l (steps.config m) =
 
 pub timed-out-expires : TimedOutExpires
 timed-out-expires h t v l = expires t h v l (steps.timed-steps t h)
-
-rests : {t : ℕ} {h x : Held} → Expires t h x → isSet (h .bridge .core .free) t ≡ false → Resting (x .bridge) t
-rests {t} (memory m a s) f = (ap (λ (c : Core). isSet (c .free) t) (a .core) ∙ (ap (λ w. isSet w t) (raised-core _ _ .free) ∙ f), same-missing (a .tag))
-rests {t} (config m a s) f = (ap (λ (c : Core). isSet (c .free) t) (a 0 .core) ∙ (ap (λ w. isSet w t) (raised-core cfgTimeout _ .free) ∙ f), same-missing (a 0 .tag))
-
-pub timeout-rests : TimeoutRests
-timeout-rests h t v l f = rests (timed-out-expires h t v l) f
