@@ -7,6 +7,15 @@ linkDownBit = 0
 abbrev pub cfgTimeout : ℕ
 cfgTimeout = 8
 
+abbrev pub correctable : ℕ
+correctable = 9
+
+abbrev pub nonFatal : ℕ
+nonFatal = 10
+
+abbrev pub fatal : ℕ
+fatal = 11
+
 abbrev pub slaveUnsupportedRequest : ℕ
 slaveUnsupportedRequest = 20
 

@@ -61,6 +61,12 @@ pub const LINK_DOWN_BIT: u32 = 0;
 
 pub const CFG_TIMEOUT: u32 = 8;
 
+pub const CORRECTABLE: u32 = 9;
+
+pub const NON_FATAL: u32 = 10;
+
+pub const FATAL: u32 = 11;
+
 pub const SLAVE_UNSUPPORTED_REQUEST: u32 = 20;
 
 pub const SLAVE_UNEXPECTED_COMPLETION: u32 = 21;

@@ -6,9 +6,11 @@ use lib.Dec.{lit<}
 use Rattle.tlp.specs.Request.{requestBytes, formatType, targetBytes}
 use Rattle.ecam.specs.Offset.{bus}
 use Rattle.ecam.specs.Request.{configRequest, configTarget, configAddress}
-use Rattle.ecam.specs.Registers.{fresh}
+use Rattle.ecam.specs.Registers.{some, decodeBits, isDecodeBit, errorBits, isErrorBit, strobe, strobed, reached, clears, shown, cleared, masked, status, localRead, localWrite, raised, messaged, fresh}
+use Rattle.bits.specs.Bits.{bit, isSet, fromBits, setBit}
+use Rattle.messages.specs.Layout.{entryOf}
 use Rattle.ecam.specs.Route.{outOfRange, route, numberOf}
-use Rattle.ecam.specs.Examples.{W7, W8, W9, buses}
+use Rattle.ecam.specs.Examples.{W7, W8, W9, buses, OneMessage, ThreeMessages, ManyMessages, AllMasked}
 use native.Mathlib.Omega.{arith}
 use borrow.Author.Tests.{lt-leb}
 
@@ -32,3 +34,22 @@ w9 =
       next = λ o e. rw (in-range 1 o e (lit< tt), e);
       crossed = λ o e. rw (in-range 3 o e (lit< tt), e);
     }
+
+-- ---- error messages
+
+pub one-message : OneMessage
+unfolding localRead localWrite messaged raised status shown cleared clears masked reached strobed strobe isDecodeBit decodeBits isErrorBit errorBits some fresh entryOf isSet bit fromBits setBit
+one-message = record { decode = refl; status = refl; fifo = refl; fatal = refl; from = refl }
+
+pub three-messages : ThreeMessages
+unfolding localRead localWrite messaged raised status shown cleared clears masked reached strobed strobe isDecodeBit decodeBits isErrorBit errorBits some fresh entryOf isSet bit fromBits setBit
+three-messages =
+    record { before = refl; kept = refl; second = refl; fifo = refl; status = refl; decode = refl; cleared = refl }
+
+pub many-messages : ManyMessages
+unfolding localRead localWrite messaged raised status shown cleared clears masked reached strobed strobe isDecodeBit decodeBits isErrorBit errorBits some fresh entryOf isSet bit fromBits setBit
+many-messages = record { decode = refl; status = refl; fifo = refl; room = refl; last = refl }
+
+pub all-masked : AllMasked
+unfolding localRead localWrite messaged raised status shown cleared clears masked reached strobed strobe isDecodeBit decodeBits isErrorBit errorBits some fresh entryOf isSet bit fromBits setBit
+all-masked = record { mask = refl }

@@ -3,4 +3,5 @@ pub mod Routes
 pub mod Requests
 pub mod Writes
 pub mod Shown
+pub mod Messages
 pub mod Examples

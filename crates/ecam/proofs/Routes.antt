@@ -11,7 +11,7 @@ use lib.Arith.{lt-of-le-ne}
 use borrow.Author.Tests.{leb-true, leb-false, eqb-true, eqb-false, not-false}
 use Rattle.bits.proofs.Flags.{and-left, and-right}
 use Rattle.common.specs.Tests.{firstOf}
-use Rattle.ecam.specs.declared.Registers.{Registers}
+use Rattle.ecam.specs.Fields.{Registers}
 use Rattle.ecam.specs.declared.Route.{Route}
 use Rattle.ecam.specs.declared.Route.the-variants.{OutOfRange, Local, Type0, Type1, NotRouted, DeviceNotZero}
 use Rattle.ecam.specs.Offset.{register, extended, function, device, bus, word}

@@ -1,6 +1,7 @@
 -- What a local read shows after a write, and when the line is high.
 use mathlib.Core.Path.{_≡_, refl, sym, ap, _∙_}
-use mathlib.Core.Bool.{Bool, true, false, cond, not, _&&_}
+use mathlib.Core.List.{List}
+use mathlib.Core.Bool.{Bool, true, false, cond, not, _&&_, _||_}
 use Prim.Native.Nat.{ℕ, zero, suc, _+_, _*_, _/_, _%_, _^_, _≤_, _<_}
 use native.Mathlib.Nat.{mod-mod, mod-eq-of-lt, zero-lt-suc, pow-suc, lt-of-lt-of-le}
 use native.Mathlib.Decide.{decLt}
@@ -11,24 +12,29 @@ use borrow.Author.Tests.{ne-eqb}
 use Rattle.bits.specs.Bits.{bit, isSet, fromBits}
 use Rattle.bits.proofs.Flags.{apart, and-left, and-right, and-true}
 use Rattle.bits.proofs.Bits.{from-bits-has, from-bits-fits, same-bits, none-above}
-use Rattle.ecam.specs.declared.Registers.{Registers}
-use Rattle.ecam.specs.Registers.{some, decodeBits, isDecodeBit, byte, strobe, strobed, reached, shown, cleared, masked, numbered, localRead, localWrite, writeBuses, writeDisable, withDecode, withMask, line}
+use Rattle.ecam.specs.Fields.{Registers}
+use Rattle.ecam.specs.Registers.{some, decodeBits, isDecodeBit, isErrorBit, byte, strobe, strobed, reached, clears, shown, cleared, masked, numbered, statusControl, errorFifoRead, status, localRead, localWrite, writeBuses, writeDisable, writeStatus, withDecode, withMask, line}
 use Rattle.ecam.specs.Laws.{ReadElsewhere, ReadBuses, ReadBusesTop, ReadInfo, ReadDisable, ReadDecode, ReadMask, ReadLink, ReadRest, OnlyDecodeBits, Held, ShownIsAll, Share, LineHigh, LineOnly}
 use Rattle.ecam.proofs.Words.{some-at, Found, some-found}
-use Rattle.ecam.proofs.Writes.{Wrote, buses, disable, decode, mask, none, wrote, decode-below}
+use Rattle.ecam.proofs.Writes as writes
+use Rattle.ecam.proofs.Writes.{Wrote, buses, disable, decode, mask, fifo, none, wrote, decode-below}
+use Rattle.messages.specs.Queue.{isEmpty}
 
 -- ---- elsewhere
 
-elsewhere : (r : Registers) (w s d v : ℕ) (q : Registers) → Wrote r w s d q → (v ≡ w → ⊥) → localRead q v ≡ localRead r v
-unfolding localRead writeBuses writeDisable
-elsewhere r w s d v q (buses e) n = rw (ne-eqb v 0x018 (λ z. n (z ∙ sym e)))
-elsewhere r w s d v q (disable e) n = rw (ne-eqb v 0x134 (λ z. n (z ∙ sym e)))
-elsewhere r w s d v q (decode e) n = rw (ne-eqb v 0x138 (λ z. n (z ∙ sym e)))
-elsewhere r w s d v q (mask e) n = rw (ne-eqb v 0x13C (λ z. n (z ∙ sym e)))
-elsewhere r w s d v q (none a b c e) n = refl
+elsewhere : (r : Registers) (w s d v : ℕ) (q : Registers) → Wrote r w s d q → (v ≡ w → ⊥) → (w ≡ errorFifoRead → v ≡ statusControl → ⊥)
+    → localRead q v ≡ localRead r v
+unfolding localRead writeBuses writeDisable writeStatus status
+elsewhere r w s d v q (buses e) n k = rw (ne-eqb v 0x018 (λ z. n (z ∙ sym e)))
+elsewhere r w s d v q (disable e) n k = rw (ne-eqb v 0x134 (λ z. n (z ∙ sym e)))
+elsewhere r w s d v q (decode e) n k = rw (ne-eqb v 0x138 (λ z. n (z ∙ sym e)))
+elsewhere r w s d v q (mask e) n k = rw (ne-eqb v 0x13C (λ z. n (z ∙ sym e)))
+elsewhere r w s d v q (writes.status e) n k = rw (ne-eqb v statusControl (λ z. n (z ∙ sym e)))
+elsewhere r w s d v q (fifo e) n k = rw (ne-eqb v statusControl (k e), ne-eqb v errorFifoRead (λ z. n (z ∙ sym e)))
+elsewhere r w s d v q none n k = refl
 
 pub read-elsewhere : ReadElsewhere
-read-elsewhere r w s d v n = elsewhere r w s d v (localWrite r w s d) (wrote r w s d) n
+read-elsewhere r w s d v n k = elsewhere r w s d v (localWrite r w s d) (wrote r w s d) n k
 
 pub read-info : ReadInfo
 unfolding localRead
@@ -40,8 +46,8 @@ read-link r = refl
 
 pub read-rest : ReadRest
 unfolding localRead
-read-rest r w a b c d e f =
-    rw (ne-eqb w 0x018 a, ne-eqb w 0x130 b, ne-eqb w 0x134 c, ne-eqb w 0x138 d, ne-eqb w 0x13C e, ne-eqb w 0x144 f)
+read-rest r w a b c d e f g h =
+    rw (ne-eqb w 0x018 a, ne-eqb w 0x130 b, ne-eqb w 0x134 c, ne-eqb w 0x138 d, ne-eqb w 0x13C e, ne-eqb w 0x144 f, ne-eqb w statusControl g, ne-eqb w errorFifoRead h)
 
 -- ---- 018
 
@@ -104,19 +110,21 @@ unfolding shown
 shown-bit x i l = from-bits-has 32 (λ i. isSet x i && isDecodeBit i) i l
 
 pub read-decode : ReadDecode
-unfolding localRead localWrite cleared reached
+unfolding localRead localWrite cleared clears reached
 read-decode r s d i l =
-    shown-bit (cleared (r .decode) s d) i l
-    ∙ rw (from-bits-has 32 (λ i. isSet (r .decode) i && not (reached s i && isSet d i)) i l, shown-bit (r .decode) i l)
-    (by (isSet (r .decode) i) (strobed s i) (isDecodeBit i) (isSet d i))
+    shown-bit (cleared (isEmpty (r .errors)) (r .decode) s d) i l
+    ∙ rw (from-bits-has 32 (λ i. isSet (r .decode) i && not (clears (isEmpty (r .errors)) s i && isSet d i)) i l, shown-bit (r .decode) i l)
+    (by (isSet (r .decode) i) (strobed s i) (isDecodeBit i) (isEmpty (r .errors) || not (isErrorBit i)) (isSet d i))
   where
-    by : (a b c e : Bool) → ((a && not (b && c && e)) && c) ≡ ((a && c) && not (b && e))
-    by false b c e = refl
-    by true true true true = refl
-    by true true true false = refl
-    by true true false e = refl
-    by true false true e = refl
-    by true false false e = refl
+    by : (a b c f e : Bool) → ((a && not (((b && c) && f) && e)) && c) ≡ ((a && c) && not (b && e && f))
+    by false b c f e = refl
+    by true true true true true = refl
+    by true true true true false = refl
+    by true true true false true = refl
+    by true true true false false = refl
+    by true true false f e = refl
+    by true false true f e = refl
+    by true false false f e = refl
 
 pub read-mask : ReadMask
 unfolding localRead localWrite masked reached
@@ -165,13 +173,33 @@ word-same a b ha hb e =
     by i false f = ha i f ∙ sym (hb i f)
 
 record-same : (r q : Registers) → r .primary ≡ q .primary → r .secondary ≡ q .secondary → r .subordinate ≡ q .subordinate
-    → r .disable ≡ q .disable → r .decode ≡ q .decode → r .mask ≡ q .mask → r .link ≡ q .link → r ≡ q
-record-same r q a b c d e f g i =
-    record { primary = a i; secondary = b i; subordinate = c i; disable = d i; decode = e i; mask = f i; link = g i }
+    → r .disable ≡ q .disable → r .decode ≡ q .decode → r .mask ≡ q .mask → r .link ≡ q .link → r .errors ≡ q .errors
+    → r .overflow ≡ q .overflow → r ≡ q
+record-same r q a b c d e f g k o i =
+    record {
+      primary = a i;
+      secondary = b i;
+      subordinate = c i;
+      disable = d i;
+      decode = e i;
+      mask = f i;
+      link = g i;
+      errors = k i;
+      overflow = o i;
+    }
+
+-- the flag, where the queue is as empty
+overflow-same : (x a b : Bool) → cond x 0 (2 ^ 16) + cond a (2 ^ 17) 0 ≡ cond x 0 (2 ^ 16) + cond b (2 ^ 17) 0 → a ≡ b
+overflow-same x true true e = refl
+overflow-same true true false e = absurd (omega (arith, e))
+overflow-same false true false e = absurd (omega (arith, e))
+overflow-same true false true e = absurd (omega (arith, e))
+overflow-same false false true e = absurd (omega (arith, e))
+overflow-same x false false e = refl
 
 pub shown-is-all : ShownIsAll
-unfolding localRead
-shown-is-all r q hr hq e =
+unfolding localRead status
+shown-is-all r q hr hq e k =
     record-same r q
     (small-same (r .primary) (q .primary) (hr .primary) (hq .primary)
     (sym (byte-0 (r .primary) (r .secondary) (r .subordinate)) ∙ (ap (λ (w : ℕ). byte w 0) (e 0x018) ∙ byte-0 (q .primary) (q .secondary) (q .subordinate))))
@@ -183,6 +211,9 @@ shown-is-all r q hr hq e =
     (word-same (r .decode) (q .decode) (hr .decode) (hq .decode) (e 0x138))
     (word-same (r .mask) (q .mask) (hr .mask) (hq .mask) (e 0x13C))
     (flag-same 2047 (r .link) (q .link) (e 0x144))
+    k
+    (overflow-same (isEmpty (r .errors)) (r .overflow) (q .overflow)
+    (e statusControl ∙ ap (λ (l : List ℕ). cond (isEmpty l) 0 (2 ^ 16) + cond (q .overflow) (2 ^ 17) 0) (sym k)))
 
 -- ---- the line
 

@@ -11,10 +11,10 @@ use lib.Dec.{eqb, ltb, lit<}
 use lib.Bits.{bitAnd, bitOr, and-le-l, and-le-r, or-lt}
 use borrow.Author.Tests.{eqb-true, eq-eqb, ne-eqb, ltb-true}
 use Rattle.bits.specs.Bits.{bit, isSet, fromBits}
-use Rattle.bits.proofs.Flags.{apart, or-true}
+use Rattle.bits.proofs.Flags.{apart, or-true, and-true}
 use Rattle.bits.proofs.Bits.{from-bits-has, from-bits-fits, same-bits, none-above}
 use Rattle.bits.proofs.Words.{and-bits, or-bits, not-bits}
-use Rattle.ecam.specs.Registers.{some, decodeBits, isDecodeBit, decodeWord, strobe, strobed, reached, shown, cleared, masked}
+use Rattle.ecam.specs.Registers.{some, decodeBits, isDecodeBit, errorBits, isErrorBit, decodeWord, strobe, strobed, reached, clears, shown, cleared, masked}
 use Rattle.ecam.specs.Laws.{DecodeWord}
 
 -- ---- some of a list
@@ -76,17 +76,17 @@ word-bits i = elim (decLt i 32) [ yes l ↦ from-bits-has 32 isDecodeBit i l | n
     high : 32 ≤ i → isSet (fromBits 32 isDecodeBit) i ≡ isDecodeBit i
     high g = none-above 32 (fromBits 32 isDecodeBit) i (from-bits-fits 32 isDecodeBit) g ∙ sym (no-decode-bit i g)
 
-pub decode-bits : (i : ℕ) → isSet 0x03F00101 i ≡ isDecodeBit i
+pub decode-bits : (i : ℕ) → isSet 0x03F00F01 i ≡ isDecodeBit i
 decode-bits i = ap (λ (w : ℕ). isSet w i) (sym decode-word) ∙ word-bits i
 
 -- ---- the bytes that the strobes choose
 
 -- a test holds of every number below n
-allBelow : ℕ → (ℕ → Bool) → Bool
+unfoldable pub allBelow : ℕ → (ℕ → Bool) → Bool
 allBelow zero p = true
 allBelow (suc n) p = p n && allBelow n p
 
-all-below : (n : ℕ) (p : ℕ → Bool) → allBelow n p ≡ true → (k : ℕ) → k < n → p k ≡ true
+pub all-below : (n : ℕ) (p : ℕ → Bool) → allBelow n p ≡ true → (k : ℕ) → k < n → p k ≡ true
 unfolding allBelow
 all-below zero p a k h = absurd (not-suc-le-zero h)
 all-below (suc n) p a k h = by (p n) refl a (λ q l. all-below n p q k l)
@@ -116,17 +116,54 @@ lanes-are s = eqb-true _ _ (all-below 16 laneTest lane-table (s % 16) (mod-lt s 
 pub is-from : (w : ℕ) (f : ℕ → Bool) → w < 2 ^ 32 → ((i : ℕ) → i < 32 → isSet w i ≡ f i) → w ≡ fromBits 32 f
 is-from w f h e = same-bits 32 w (fromBits 32 f) h (from-bits-fits 32 f) (λ i l. e i l ∙ sym (from-bits-has 32 f i l))
 
-pub reach-is : (s m : ℕ) → m ≡ fromBits 32 (strobed s) → bitAnd m 0x03F00101 ≡ fromBits 32 (reached s)
+pub reach-is : (s m : ℕ) → m ≡ fromBits 32 (strobed s) → bitAnd m 0x03F00F01 ≡ fromBits 32 (reached s)
 unfolding reached
 reach-is s m e =
-    is-from (bitAnd m 0x03F00101) (reached s) (lt-of-le-of-lt (and-le-r m 0x03F00101) (lit< tt))
-    (λ i l. rw (and-bits m 0x03F00101 i, decode-bits i, e, from-bits-has 32 (strobed s) i l))
+    is-from (bitAnd m 0x03F00F01) (reached s) (lt-of-le-of-lt (and-le-r m 0x03F00F01) (lit< tt))
+    (λ i l. rw (and-bits m 0x03F00F01 i, decode-bits i, e, from-bits-has 32 (strobed s) i l))
 
-pub shown-is : (w : ℕ) → bitAnd w 0x03F00101 ≡ shown w
+pub shown-is : (w : ℕ) → bitAnd w 0x03F00F01 ≡ shown w
 unfolding shown
 shown-is w =
-    is-from (bitAnd w 0x03F00101) (λ i. isSet w i && isDecodeBit i) (lt-of-le-of-lt (and-le-r w 0x03F00101) (lit< tt))
-    (λ i l. rw (and-bits w 0x03F00101 i, decode-bits i))
+    is-from (bitAnd w 0x03F00F01) (λ i. isSet w i && isDecodeBit i) (lt-of-le-of-lt (and-le-r w 0x03F00F01) (lit< tt))
+    (λ i l. rw (and-bits w 0x03F00F01 i, decode-bits i))
+
+-- all but bits 9 to 11
+others-word : 0xFFFFF1FF ≡ fromBits 32 (λ i. not (isErrorBit i))
+unfolding fromBits isErrorBit some errorBits
+others-word = refl
+
+no-error-bits : (i : ℕ) → i < 32 → isSet 0xFFFFF1FF i ≡ not (isErrorBit i)
+no-error-bits i l = ap (λ (w : ℕ). isSet w i) others-word ∙ from-bits-has 32 (λ i. not (isErrorBit i)) i l
+
+-- what a written one clears
+pub clearing-all : (s m : ℕ) → m ≡ fromBits 32 (reached s) → m ≡ fromBits 32 (clears true s)
+unfolding clears
+clearing-all s m e =
+    is-from m (clears true s) (rw e (from-bits-fits 32 (reached s)))
+    (λ i l. rw (e, from-bits-has 32 (reached s) i l) (sym (and-true (reached s i))))
+
+pub clearing-others : (s m : ℕ) → m ≡ fromBits 32 (reached s) → bitAnd m 0xFFFFF1FF ≡ fromBits 32 (clears false s)
+unfolding clears
+clearing-others s m e =
+    is-from (bitAnd m 0xFFFFF1FF) (clears false s) (lt-of-le-of-lt (and-le-r m 0xFFFFF1FF) (lit< tt))
+    (λ i l. rw (and-bits m 0xFFFFF1FF i, no-error-bits i l, e, from-bits-has 32 (reached s) i l))
+
+module _ (empty : Bool) (w s d m : ℕ) (hw : w < 2 ^ 32) (hd : d < 2 ^ 32) (e : m ≡ fromBits 32 (clears empty s)) where
+  c-fits : m < 2 ^ 32
+  c-fits = rw e (from-bits-fits 32 (clears empty s))
+
+  c-bits : (i : ℕ) → i < 32 → isSet m i ≡ clears empty s i
+  c-bits i l = rw e (from-bits-has 32 (clears empty s) i l)
+
+  cd-fits : bitAnd m d < 2 ^ 32
+  cd-fits = lt-of-le-of-lt (and-le-l m d) c-fits
+
+  pub cleared-is : bitAnd w ((2 ^ 32 - 1) - bitAnd m d) ≡ cleared empty w s d
+  unfolding cleared
+  cleared-is =
+      is-from (bitAnd w ((2 ^ 32 - 1) - bitAnd m d)) (λ i. isSet w i && not (clears empty s i && isSet d i)) (lt-of-le-of-lt (and-le-l w _) hw)
+      (λ i l. rw (and-bits w ((2 ^ 32 - 1) - bitAnd m d) i, not-bits 32 (bitAnd m d) i cd-fits l, and-bits m d i, c-bits i l))
 
 module _ (w s d m : ℕ) (hw : w < 2 ^ 32) (hd : d < 2 ^ 32) (e : m ≡ fromBits 32 (reached s)) where
   m-fits : m < 2 ^ 32
@@ -137,12 +174,6 @@ module _ (w s d m : ℕ) (hw : w < 2 ^ 32) (hd : d < 2 ^ 32) (e : m ≡ fromBits
 
   md-fits : bitAnd m d < 2 ^ 32
   md-fits = lt-of-le-of-lt (and-le-l m d) m-fits
-
-  pub cleared-is : bitAnd w ((2 ^ 32 - 1) - bitAnd m d) ≡ cleared w s d
-  unfolding cleared
-  cleared-is =
-      is-from (bitAnd w ((2 ^ 32 - 1) - bitAnd m d)) (λ i. isSet w i && not (reached s i && isSet d i)) (lt-of-le-of-lt (and-le-l w _) hw)
-      (λ i l. rw (and-bits w ((2 ^ 32 - 1) - bitAnd m d) i, not-bits 32 (bitAnd m d) i md-fits l, and-bits m d i, m-bits i l))
 
   pub masked-is : bitOr (bitAnd m d) (bitAnd w ((2 ^ 32 - 1) - m)) ≡ masked w s d
   unfolding masked
@@ -167,11 +198,11 @@ module _ (a b : ℕ) where
   both i = isSet a i && isSet b i
 
   shared : ℕ
-  shared = bitAnd (bitAnd a b) 0x03F00101
+  shared = bitAnd (bitAnd a b) 0x03F00F01
 
   shared-bits : (i : ℕ) → isSet shared i ≡ (both i && isDecodeBit i)
   unfolding both shared
-  shared-bits i = rw (and-bits (bitAnd a b) 0x03F00101 i, and-bits a b i, decode-bits i)
+  shared-bits i = rw (and-bits (bitAnd a b) 0x03F00F01 i, and-bits a b i, decode-bits i)
 
   -- a bit that both have makes the word more than 0
   shared-some : Found both decodeBits → shared ≡ 0 → ⊥
@@ -191,7 +222,7 @@ module _ (a b : ℕ) where
       none true false p q = refl
       none false y p q = refl
 
-  pub shared-is : not (eqb (bitAnd (bitAnd a b) 0x03F00101) 0) ≡ some (λ i. isSet a i && isSet b i) decodeBits
+  pub shared-is : not (eqb (bitAnd (bitAnd a b) 0x03F00F01) 0) ≡ some (λ i. isSet a i && isSet b i) decodeBits
   unfolding both shared
   shared-is = by (some both decodeBits) refl
     where
@@ -201,5 +232,5 @@ module _ (a b : ℕ) where
           rw (
             e,
             eq-eqb shared 0
-                (same-bits 32 shared 0 (lt-of-le-of-lt (and-le-r (bitAnd a b) 0x03F00101) (lit< tt)) (lit< tt) (λ i l. shared-none e i)),
+                (same-bits 32 shared 0 (lt-of-le-of-lt (and-le-r (bitAnd a b) 0x03F00F01) (lit< tt)) (lit< tt) (λ i l. shared-none e i)),
           )

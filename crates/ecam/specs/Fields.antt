@@ -1,7 +1,25 @@
--- One setter for each register. A new register is a line in each of these, in `fresh` and in the struct of the code.
+-- The registers as a value, and one setter for each. A new register is a line in each of these, in `fresh`, in the struct of
+-- the code and in what the struct means (contracts/).
 use Prim.Native.Nat.{ℕ}
+use mathlib.Core.List.{List}
 use mathlib.Core.Bool.{Bool}
-use Rattle.ecam.specs.declared.Registers.{Registers}
+
+pub record Registers : Type 0 where
+  -- 018
+  pub primary : ℕ
+  pub secondary : ℕ
+  pub subordinate : ℕ
+  -- 134 bit 8
+  pub disable : Bool
+  -- 138 and 13C
+  pub decode : ℕ
+  pub mask : ℕ
+  -- 144 bit 11
+  pub link : Bool
+  -- the queued error messages, oldest first: 154 and 148 bit 16
+  pub errors : List ℕ
+  -- 148 bit 17
+  pub overflow : Bool
 
 abbrev pub withPrimary : Registers → ℕ → Registers
 withPrimary r x =
@@ -13,6 +31,8 @@ withPrimary r x =
       decode = r .decode;
       mask = r .mask;
       link = r .link;
+      errors = r .errors;
+      overflow = r .overflow;
     }
 
 abbrev pub withSecondary : Registers → ℕ → Registers
@@ -25,6 +45,8 @@ withSecondary r x =
       decode = r .decode;
       mask = r .mask;
       link = r .link;
+      errors = r .errors;
+      overflow = r .overflow;
     }
 
 abbrev pub withSubordinate : Registers → ℕ → Registers
@@ -37,6 +59,8 @@ withSubordinate r x =
       decode = r .decode;
       mask = r .mask;
       link = r .link;
+      errors = r .errors;
+      overflow = r .overflow;
     }
 
 abbrev pub withDisable : Registers → Bool → Registers
@@ -49,6 +73,8 @@ withDisable r x =
       decode = r .decode;
       mask = r .mask;
       link = r .link;
+      errors = r .errors;
+      overflow = r .overflow;
     }
 
 abbrev pub withDecode : Registers → ℕ → Registers
@@ -61,6 +87,8 @@ withDecode r x =
       decode = x;
       mask = r .mask;
       link = r .link;
+      errors = r .errors;
+      overflow = r .overflow;
     }
 
 abbrev pub withMask : Registers → ℕ → Registers
@@ -73,6 +101,8 @@ withMask r x =
       decode = r .decode;
       mask = x;
       link = r .link;
+      errors = r .errors;
+      overflow = r .overflow;
     }
 
 abbrev pub withLink : Registers → Bool → Registers
@@ -85,4 +115,34 @@ withLink r x =
       decode = r .decode;
       mask = r .mask;
       link = x;
+      errors = r .errors;
+      overflow = r .overflow;
+    }
+
+abbrev pub withErrors : Registers → List ℕ → Registers
+withErrors r x =
+    record {
+      primary = r .primary;
+      secondary = r .secondary;
+      subordinate = r .subordinate;
+      disable = r .disable;
+      decode = r .decode;
+      mask = r .mask;
+      link = r .link;
+      errors = x;
+      overflow = r .overflow;
+    }
+
+abbrev pub withOverflow : Registers → Bool → Registers
+withOverflow r x =
+    record {
+      primary = r .primary;
+      secondary = r .secondary;
+      subordinate = r .subordinate;
+      disable = r .disable;
+      decode = r .decode;
+      mask = r .mask;
+      link = r .link;
+      errors = r .errors;
+      overflow = x;
     }

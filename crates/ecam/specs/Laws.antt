@@ -1,18 +1,21 @@
 -- What is proved of the definitions, for every offset, all registers, every word, strobes and data.
 use mathlib.Core.Path.{_≡_}
-use mathlib.Core.List.{[], _∷_}
-use mathlib.Core.Bool.{Bool, true, false, cond, not, _&&_}
+use mathlib.Core.List.{List, [], _∷_, _++_}
+use mathlib.Core.Bool.{Bool, true, false, cond, not, _&&_, _||_}
 use Prim.Native.Nat.{ℕ, _+_, _*_, _%_, _^_, _≤_, _<_}
 use lib.Dec.{eqb}
 use Rattle.common.specs.Tests.{firstOf}
+use lib.ListN.{length}
 use Rattle.bits.specs.Bits.{isSet}
+use Rattle.messages.specs.Queue.{depth, isEmpty, isFull, pop, oldest}
+use Rattle.messages.specs.Layout.{codeOf, errorBit, entryOf}
 use Rattle.tlp.specs.Request.{validRequest}
-use Rattle.ecam.specs.declared.Registers.{Registers}
+use Rattle.ecam.specs.Fields.{Registers}
 use Rattle.ecam.specs.declared.Route.{Route}
 use Rattle.ecam.specs.declared.Route.the-variants.{Type0, Type1}
 use Rattle.ecam.specs.Offset.{register, extended, function, device, bus, word}
 use Rattle.ecam.specs.Route.{outOfRange, isLocal, isRouted, deviceNotZero, route, numberOf}
-use Rattle.ecam.specs.Registers.{isDecodeBit, decodeWord, byte, strobe, strobed, reached, localRead, localWrite, withDecode, raised, line, fresh}
+use Rattle.ecam.specs.Registers.{isDecodeBit, isErrorBit, decodeWord, byte, strobe, strobed, reached, statusControl, errorFifoNotEmpty, errorFifoOverflow, errorFifoRead, localRead, localWrite, withDecode, withErrors, raised, messaged, line, fresh}
 use Rattle.ecam.specs.Request.{configAddress, configRequest, dataBytes, dataWord}
 
 -- ---- offsets and routes
@@ -79,26 +82,36 @@ pub record OnlyNamed (r : Registers) (w s : ℕ) (q : Registers) : Type 0 where
   pub decode : (i : ℕ) → i < 32 → (eqb w 0x138 && reached s i) ≡ false → isSet (q .decode) i ≡ isSet (r .decode) i
   pub mask : (i : ℕ) → i < 32 → (eqb w 0x13C && reached s i) ≡ false → isSet (q .mask) i ≡ isSet (r .mask) i
   pub link : q .link ≡ r .link
+  pub errors : eqb w errorFifoRead ≡ false → q .errors ≡ r .errors
+  pub overflow : (eqb w statusControl && strobe s 2) ≡ false → q .overflow ≡ r .overflow
 
 abbrev pub WriteOnlyNamed : Type 0
 WriteOnlyNamed = (r : Registers) (w s d : ℕ) → OnlyNamed r w s (localWrite r w s d)
 
--- a write to any word but 018, 134, 138 and 13C changes nothing
+-- a write to any word but 018, 134, 138, 13C, 148 and 154 changes nothing
 abbrev pub WriteIgnored : Type 0
 WriteIgnored =
-    (r : Registers) (w s d : ℕ) → (w ≡ 0x018 → ⊥) → (w ≡ 0x134 → ⊥) → (w ≡ 0x138 → ⊥) → (w ≡ 0x13C → ⊥) → localWrite r w s d ≡ r
+    (r : Registers) (w s d : ℕ)
+    → (w ≡ 0x018 → ⊥)
+    → (w ≡ 0x134 → ⊥)
+    → (w ≡ 0x138 → ⊥)
+    → (w ≡ 0x13C → ⊥)
+    → (w ≡ statusControl → ⊥)
+    → (w ≡ errorFifoRead → ⊥)
+    → localWrite r w s d ≡ r
 
 -- a write sets no decode bit
 abbrev pub WriteSetsNone : Type 0
 WriteSetsNone =
     (r : Registers) (w s d i : ℕ) → i < 32 → isSet (localWrite r w s d .decode) i ≡ true → isSet (r .decode) i ≡ true
 
--- and clears one only where a one is written to 138 in a strobed byte
-pub record OneWritten (w s d i : ℕ) : Type 0 where
+-- and clears one only where a one is written to 138 in a strobed byte; 9 to 11 only while the queue is empty
+pub record OneWritten (empty : Bool) (w s d i : ℕ) : Type 0 where
   pub there : w ≡ 0x138
   pub bit : isDecodeBit i ≡ true
   pub chosen : strobed s i ≡ true
   pub one : isSet d i ≡ true
+  pub free : (empty || not (isErrorBit i)) ≡ true
 
 abbrev pub WriteClearsOnes : Type 0
 WriteClearsOnes =
@@ -106,11 +119,12 @@ WriteClearsOnes =
     → i < 32
     → isSet (r .decode) i ≡ true
     → isSet (localWrite r w s d .decode) i ≡ false
-    → OneWritten w s d i
+    → OneWritten (isEmpty (r .errors)) w s d i
 
--- with no strobe nothing changes (of 32-bit words)
+-- with no strobe nothing changes (of 32-bit words), but by a write to 154
 abbrev pub NoStrobes : Type 0
-NoStrobes = (r : Registers) (w d : ℕ) → r .decode < 2 ^ 32 → r .mask < 2 ^ 32 → localWrite r w 0 d ≡ r
+NoStrobes =
+    (r : Registers) (w d : ℕ) → (w ≡ errorFifoRead → ⊥) → r .decode < 2 ^ 32 → r .mask < 2 ^ 32 → localWrite r w 0 d ≡ r
 
 -- of the strobes only the low four count
 abbrev pub StrobesMod16 : Type 0
@@ -122,13 +136,14 @@ StrobesMod16 = (r : Registers) (w s d : ℕ) → localWrite r w (s % 16) d ≡ l
 abbrev pub OnlyDecodeBits : ℕ → Type 0
 OnlyDecodeBits w = (i : ℕ) → isDecodeBit i ≡ false → isSet w i ≡ false
 
--- what a run's registers keep: bus numbers of a byte, and decode and mask of decode's bits alone
+-- what a run's registers keep: bus numbers of a byte, decode and mask of decode's bits alone, and 32 messages at most
 pub record Held (r : Registers) : Type 0 where
   pub primary : r .primary < 2 ^ 8
   pub secondary : r .secondary < 2 ^ 8
   pub subordinate : r .subordinate < 2 ^ 8
   pub decode : OnlyDecodeBits (r .decode)
   pub mask : OnlyDecodeBits (r .mask)
+  pub errors : length (r .errors) ≤ depth
 
 abbrev pub FreshHeld : Type 0
 FreshHeld = Held fresh
@@ -139,9 +154,12 @@ WriteHeld = (r : Registers) (w s d : ℕ) → Held r → Held (localWrite r w s 
 abbrev pub RaiseHeld : Type 0
 RaiseHeld = (r : Registers) (i : ℕ) → Held r → Held (withDecode r (raised (r .decode) i))
 
--- the bits of the list are those of the number 03F00101
+abbrev pub MessageHeld : Type 0
+MessageHeld = (r : Registers) (m : List ℕ) → Held r → Held (messaged r m)
+
+-- the bits of the list are those of the number 03F00F01
 abbrev pub DecodeWord : Type 0
-DecodeWord = decodeWord ≡ 0x03F00101
+DecodeWord = decodeWord ≡ 0x03F00F01
 
 -- a raised decode bit is set and no other changes; raising it again, or a number that is no decode bit, changes nothing
 pub record Raised (w t r : ℕ) : Type 0 where
@@ -159,9 +177,13 @@ RaiseOther = (w t : ℕ) → isDecodeBit t ≡ false → raised w t ≡ w
 
 -- ---- a read; it hands back a number alone, so it changes nothing
 
--- a word that was not written reads as before
+-- a word that was not written reads as before; but 148 shows whether a write to 154 left the queue empty
 abbrev pub ReadElsewhere : Type 0
-ReadElsewhere = (r : Registers) (w s d v : ℕ) → (v ≡ w → ⊥) → localRead (localWrite r w s d) v ≡ localRead r v
+ReadElsewhere =
+    (r : Registers) (w s d v : ℕ)
+    → (v ≡ w → ⊥)
+    → (w ≡ errorFifoRead → v ≡ statusControl → ⊥)
+    → localRead (localWrite r w s d) v ≡ localRead r v
 
 -- 018: the strobed bytes below byte 3 are the data's
 abbrev pub ReadBuses : Type 0
@@ -183,12 +205,13 @@ ReadDisable =
     (r : Registers) (s d : ℕ)
     → localRead (localWrite r 0x134 s d) 0x134 ≡ cond (strobe s 1) (cond (isSet d 8) (2 ^ 8) 0) (localRead r 0x134)
 
--- 138: a strobed one clears
+-- 138: a strobed one clears, in bits 9 to 11 only while the queue is empty
 abbrev pub ReadDecode : Type 0
 ReadDecode =
     (r : Registers) (s d i : ℕ)
     → i < 32
-    → isSet (localRead (localWrite r 0x138 s d) 0x138) i ≡ (isSet (localRead r 0x138) i && not (strobed s i && isSet d i))
+    → isSet (localRead (localWrite r 0x138 s d) 0x138) i
+    ≡ (isSet (localRead r 0x138) i && not (strobed s i && isSet d i && (isEmpty (r .errors) || not (isErrorBit i))))
 
 -- 13C: decode's bits in the strobed bytes are the data's
 abbrev pub ReadMask : Type 0
@@ -212,11 +235,14 @@ ReadRest =
     → (w ≡ 0x138 → ⊥)
     → (w ≡ 0x13C → ⊥)
     → (w ≡ 0x144 → ⊥)
+    → (w ≡ statusControl → ⊥)
+    → (w ≡ errorFifoRead → ⊥)
     → localRead r w ≡ 0
 
--- the words show all that a run's registers keep: what reads alike is alike
+-- the words and the queued messages are all that a run's registers keep: what reads alike, with equal queues, is alike
 abbrev pub ShownIsAll : Type 0
-ShownIsAll = (r q : Registers) → Held r → Held q → ((v : ℕ) → localRead r v ≡ localRead q v) → r ≡ q
+ShownIsAll =
+    (r q : Registers) → Held r → Held q → ((v : ℕ) → localRead r v ≡ localRead q v) → r .errors ≡ q .errors → r ≡ q
 
 -- ---- the line
 

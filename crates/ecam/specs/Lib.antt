@@ -4,4 +4,6 @@ pub mod Fields
 pub mod Registers
 pub mod Request
 pub mod Laws
+pub mod MessageLaws
 pub mod Examples
+pub mod contracts

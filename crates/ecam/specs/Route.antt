@@ -3,7 +3,7 @@ use Prim.Native.Nat.{ℕ, _+_, _^_}
 use mathlib.Core.Bool.{Bool, cond, not, _&&_}
 use lib.Dec.{leb, eqb}
 use Rattle.refusals.specs.Table.{offsetOver, notRouted, wrongDevice}
-use Rattle.ecam.specs.declared.Registers.{Registers}
+use Rattle.ecam.specs.Fields.{Registers}
 use Rattle.ecam.specs.declared.Route.{Route}
 use Rattle.ecam.specs.declared.Route.the-variants.{OutOfRange, Local, Type0, Type1, NotRouted, DeviceNotZero}
 use Rattle.ecam.specs.Offset.{device, bus, word}

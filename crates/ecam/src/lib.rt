@@ -1,16 +1,21 @@
 // Configuration space: where an access goes, and the registers that the local words show.
 use common::long;
+use messages::queue::DEPTH;
+use messages::queue::Ring;
 use tlp::request::ConfigAddress;
 use tlp::request::Request;
 use tlp::request::Target;
 ghost use mathlib.Core.Path.{_≡_};
-ghost use mathlib.Core.Bool.{cond};
-ghost use Prim.Native.Nat.{_%_, _<_};
+ghost use mathlib.Core.Bool.{cond, not, _&&_};
+ghost use mathlib.Core.List.{List};
+ghost use Prim.Native.Nat.{ℕ, _+_, _%_, _^_, _≤_, _<_};
+ghost use lib.ListN.{length};
 ghost use Rattle.bits.specs.Bits.{isSet, fromBits};
 ghost use Rattle.ecam.specs.Offset.{register, extended, function, device, bus, word};
 ghost use Rattle.ecam.specs.Route.{outOfRange, route, numberOf};
 ghost use Rattle.ecam.specs.Request.{configAddress, configTarget, configRequest, dataBytes, dataWord};
-ghost use Rattle.ecam.specs.Registers.{fresh, strobed, reached, numbered, shown, cleared, masked, localRead, localWrite, raised, line};
+ghost use Rattle.ecam.specs.Registers.{fresh, strobed, reached, clears, numbered, shown, cleared, masked, errorFifoNotEmpty, errorFifoOverflow, status, localRead, localWrite, raised, messaged, line};
+ghost use Rattle.ecam.specs.contracts.Struct.{registersFrom};
 
 pub struct Registers {
     pub primary: u32,
@@ -20,6 +25,10 @@ pub struct Registers {
     pub decode: u32,
     pub mask: u32,
     pub link: bool,
+    // The queued error messages, whose entries stand in cells of their own.
+    pub errors: Ring,
+    // A message was dropped.
+    pub overflow: bool,
 }
 
 pub enum Route {
@@ -33,7 +42,7 @@ pub enum Route {
 
 // A fresh bridge's registers: link down, all zero.
 pub fn fresh_registers() -> Registers
-    ensures { λ r. ⌜ r ≡ fresh ⌝ }
+    ensures { λ r. ⌜ ((cells : List ℕ) → registersFrom r cells ≡ fresh) ⌝ }
 {
     Registers {
         primary: 0,
@@ -43,11 +52,21 @@ pub fn fresh_registers() -> Registers
         decode: 0,
         mask: 0,
         link: false,
+        errors: messages::queue::empty_ring(),
+        overflow: false,
     }
 }
 
-// Bits 0, 8 and 20 to 25.
-const DECODE: u32 = 0x03F0_0101;
+// Bits 0, 8 to 11 and 20 to 25.
+const DECODE: u32 = 0x03F0_0F01;
+
+// All but bits 9 to 11.
+const NO_ERRORS: u32 = 0xFFFF_F1FF;
+
+// Bits 16 and 17 of 148.
+const FIFO_NOT_EMPTY: u32 = 65536;
+
+const FIFO_OVERFLOW: u32 = 131072;
 
 pub fn register(offset: u64) -> u32
     ensures { λ r. ⌜ r ≡ register offset ⌝ }
@@ -96,7 +115,7 @@ fn out_of_range(n: u32, offset: u64) -> bool
 
 // Where an access at this offset goes, with n bus bits.
 pub fn route_of(n: u32, r: Registers, offset: u64) -> Route
-    ensures { λ x. ⌜ x ≡ route n r offset ⌝ }
+    ensures { λ x. ⌜ ((cells : List ℕ) → x ≡ route n (registersFrom r cells) offset) ⌝ }
 {
     if out_of_range(n, offset) {
         return Route::OutOfRange;
@@ -244,10 +263,21 @@ fn show(w: u32) -> u32
     w & DECODE
 }
 
-fn clear_ones(w: u32, strobes: u32, data: u32) -> u32
-    ensures { λ r. ⌜ r ≡ cleared w strobes «data» ⌝ }
+// The bits of 138 that a written one clears: 9 to 11 only while the queue is empty.
+fn clearing(empty: bool, strobes: u32) -> u32
+    ensures { λ r. ⌜ r ≡ fromBits 32 (clears empty strobes) ⌝ }
 {
     let m = reach(strobes);
+    if empty {
+        return m;
+    }
+    m & NO_ERRORS
+}
+
+fn clear_ones(empty: bool, w: u32, strobes: u32, data: u32) -> u32
+    ensures { λ r. ⌜ r ≡ cleared empty w strobes «data» ⌝ }
+{
+    let m = clearing(empty, strobes);
     w & !(m & data)
 }
 
@@ -284,9 +314,40 @@ fn flag(b: bool, w: u32) -> u32
     if b { w } else { 0 }
 }
 
+// The overflow flag after a write to 148.
+fn keep_overflow(x: bool, strobes: u32, data: u32) -> bool
+    ensures { λ r. ⌜ r ≡ (x && not (strobed strobes errorFifoOverflow && isSet «data» errorFifoOverflow)) ⌝ }
+{
+    let chosen = bits::is_set(strobes % 16, 2);
+    let one = bits::is_set(data, 17);
+    x & !(chosen & one)
+}
+
+// Bits 16 and 17 of 148.
+fn status_bits(empty: bool, overflow: bool) -> u32
+    ensures { λ r. ⌜ r ≡ cond empty 0 (2 ^ errorFifoNotEmpty) + cond overflow (2 ^ errorFifoOverflow) 0 ⌝ }
+{
+    if empty {
+        return flag(overflow, FIFO_OVERFLOW);
+    }
+    if overflow {
+        return FIFO_NOT_EMPTY + FIFO_OVERFLOW;
+    }
+    FIFO_NOT_EMPTY
+}
+
+// What 148 shows.
+fn status_of(r: Registers) -> u32
+    ensures { λ v. ⌜ ((cells : List ℕ) → v ≡ status (registersFrom r cells)) ⌝ }
+{
+    let errors = r.errors;
+    let empty = messages::queue::is_empty(errors);
+    status_bits(empty, r.overflow)
+}
+
 // What a local word shows.
-pub fn local_read(r: Registers, word: u32) -> u32
-    ensures { λ v. ⌜ v ≡ localRead r word ⌝ }
+pub fn local_read(r: Registers, cells: &[u32; DEPTH], word: u32) -> u32
+    ensures { λ v. ⌜ v ≡ localRead (registersFrom r (now (cells .entry))) word ⌝ }
 {
     if word == 0x018 {
         return r.primary % 256 + r.secondary % 256 * 256 + r.subordinate % 256 * 65536;
@@ -306,13 +367,21 @@ pub fn local_read(r: Registers, word: u32) -> u32
     if word == 0x144 {
         return flag(r.link, 2048);
     }
+    if word == 0x148 {
+        return status_of(r);
+    }
+    if word == 0x154 {
+        let errors = r.errors;
+        return messages::queue::oldest(errors, cells);
+    }
     0
 }
 
-// The registers after a write to a local word.
+// The registers after a write to a local word. No cell changes: the oldest entry goes by moving the queue's beginning.
 pub fn local_write(r: Registers, word: u32, strobes: u32, data: u32) -> Registers
-    ensures { λ q. ⌜ q ≡ localWrite r word strobes «data» ⌝ }
+    ensures { λ q. ⌜ ((cells : List ℕ) → registersFrom q cells ≡ localWrite (registersFrom r cells) word strobes «data») ⌝ }
 {
+    let errors = r.errors;
     let mut q = r;
     if word == 0x018 {
         q.primary = set_number(r.primary, strobes, data, 0);
@@ -325,11 +394,20 @@ pub fn local_write(r: Registers, word: u32, strobes: u32, data: u32) -> Register
         return q;
     }
     if word == 0x138 {
-        q.decode = clear_ones(r.decode, strobes, data);
+        let empty = messages::queue::is_empty(errors);
+        q.decode = clear_ones(empty, r.decode, strobes, data);
         return q;
     }
     if word == 0x13C {
         q.mask = set_mask(r.mask, strobes, data);
+        return q;
+    }
+    if word == 0x148 {
+        q.overflow = keep_overflow(r.overflow, strobes, data);
+        return q;
+    }
+    if word == 0x154 {
+        q.errors = messages::queue::pop(errors);
         return q;
     }
     q
@@ -345,9 +423,26 @@ pub fn raise(decode: u32, i: u32) -> u32
     decode
 }
 
+// An error message came, of 16 bytes.
+pub fn message(r: Registers, cells: &mut [u32; DEPTH], packet: &[u8]) -> Registers
+    requires { ⌜ 16 ≤ length (now packet) ⌝ }
+    ensures { λ q. ⌜ registersFrom q (now (cells .exit)) ≡ messaged (registersFrom r (now (cells .entry))) (now (packet .entry)) ⌝ }
+{
+    let errors = r.errors;
+    let full = messages::queue::is_full(errors);
+    let code = messages::layout::code_of(packet);
+    let bit = messages::layout::error_bit(code);
+    let entry = messages::layout::entry_of(packet);
+    let mut q = r;
+    q.decode = raise(r.decode, bit);
+    q.overflow = r.overflow | full;
+    q.errors = messages::queue::push(errors, cells, entry);
+    q
+}
+
 // The interrupt line.
 pub fn line(r: Registers) -> bool
-    ensures { λ x. ⌜ x ≡ line r ⌝ }
+    ensures { λ x. ⌜ ((cells : List ℕ) → x ≡ line (registersFrom r cells)) ⌝ }
 {
     if r.disable {
         return false;

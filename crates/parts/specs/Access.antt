@@ -4,11 +4,10 @@ use mathlib.Core.List.{List, [], _∷_}
 use mathlib.Core.Bool.{Bool, true, false, cond, _&&_, not}
 use lib.Dec.{ltb, eqb}
 use Rattle.parts.specs.declared.ConfigSlot.{ConfigSlot}
-use Rattle.parts.specs.declared.Core.{Core}
 use Rattle.verdict.specs.declared.Cause.the-variants.{Timeout, UnsupportedRequest, RequestRetry, CompleterAbort, Poison}
 use Rattle.parts.specs.Sizes.{slotFree, slotOpen}
 pub use Rattle.parts.specs.Sizes.{areaSize}
-use Rattle.parts.specs.Cores.{tagCount, withRegisters, withConfig, doneConfig}
+use Rattle.parts.specs.Cores.{Core, tagCount, withRegisters, withConfig, doneConfig}
 use Rattle.verdict.specs.Verdict.{slverr, okay}
 use Rattle.verdict.specs.declared.Verdict.{Verdict}
 use Rattle.verdict.specs.declared.Verdict.the-variants.{Unexpected, Good, Poisoned, Failed}

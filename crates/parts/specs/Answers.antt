@@ -2,8 +2,7 @@
 use Prim.Native.Nat.{ℕ}
 use mathlib.Core.Bool.{cond}
 use lib.Dec.{eqb}
-use Rattle.parts.specs.declared.Core.{Core}
-use Rattle.parts.specs.Cores.{raisedCore}
+use Rattle.parts.specs.Cores.{Core, raisedCore}
 use Rattle.parts.specs.declared.Answer.{Answer}
 use Rattle.verdict.specs.Verdict.{okay, decerr}
 use Rattle.refusals.specs.declared.Response.the-variants.{Nothing, Okay, Slverr, Decerr}

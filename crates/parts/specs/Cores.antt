@@ -1,13 +1,18 @@
 -- The core of a bridge: registers, tick counter, free tags and configuration slot.
 use Prim.Native.Nat.{ℕ, _-_, _^_}
 use mathlib.Core.Bool.{Bool, false}
-use Rattle.ecam.specs.declared.Registers.{Registers}
 use Rattle.parts.specs.declared.ConfigSlot.{ConfigSlot}
-use Rattle.parts.specs.declared.Core.{Core}
-use Rattle.ecam.specs.Registers.{fresh, raised, withDecode, withLink}
+use Rattle.ecam.specs.Registers.{Registers, fresh, raised, withDecode, withLink}
 use Rattle.verdict.specs.Verdict.{okay}
 use Rattle.parts.specs.Sizes.{slotFree, slotOpen, slotFinished}
 pub use Rattle.parts.specs.Sizes.{tagCount}
+
+pub record Core : Type 0 where
+  pub registers : Registers
+  pub ticks : ℕ
+  -- the free tags, as the ones of a word
+  pub free : ℕ
+  pub config : ConfigSlot
 
 -- ---- one part put anew
 

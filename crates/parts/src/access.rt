@@ -8,6 +8,7 @@ use crate::OPEN;
 use crate::answers::raise_in;
 use common::CFG_TIMEOUT;
 use ecam::Route;
+use messages::queue::DEPTH;
 use refusals::CONFIG_BUSY;
 use refusals::FEW_TAGS;
 use refusals::LINK_DOWN;
@@ -24,6 +25,7 @@ ghost use Rattle.parts.specs.Access.{configDone, goesOut, configNumber, 
 ghost use mathlib.Core.Path.{_≡_};
 ghost use Rattle.verdict.specs.declared.Verdict.the-variants.{Failed};
 ghost use Rattle.ecam.specs.Request.{dataWord};
+ghost use Rattle.parts.specs.contracts.Struct.{coreFrom};
 
 // Whether the request goes out over the link.
 pub fn goes_out(x: Route) -> bool
@@ -41,7 +43,7 @@ pub fn goes_out(x: Route) -> bool
 
 // The refusals in their order: 8, 5, the route's 9, 10 or 11, and of what goes out 4 and 7.
 pub fn config_number(c: Core, x: Route, room: usize) -> u32
-    ensures { λ r. ⌜ r ≡ configNumber c x room ⌝ }
+    ensures { λ r. ⌜ ((cells : List ℕ) → r ≡ configNumber (coreFrom c cells) x room) ⌝ }
 {
     if room < AREA_SIZE {
         return TOO_SHORT;
@@ -66,8 +68,16 @@ pub fn config_number(c: Core, x: Route, room: usize) -> u32
 }
 
 // A local access, of word w, finishes at once.
-pub fn local_core(c: Core, offset: u64, write: bool, strobes: u32, word: u32, w: u32) -> Core
-    ensures { λ r. ⌜ r ≡ localCore c (accessOf offset write strobes word) w ⌝ }
+pub fn local_core(
+    c: Core,
+    cells: &[u32; DEPTH],
+    offset: u64,
+    write: bool,
+    strobes: u32,
+    word: u32,
+    w: u32,
+) -> Core
+    ensures { λ r. ⌜ coreFrom r (now (cells .entry)) ≡ localCore (coreFrom c (now (cells .entry))) (accessOf offset write strobes word) w ⌝ }
 {
     let registers = c.registers;
     let mut d = c;
@@ -82,7 +92,7 @@ pub fn local_core(c: Core, offset: u64, write: bool, strobes: u32, word: u32, w:
         d.config = config;
         return d;
     }
-    let shown = ecam::local_read(registers, w);
+    let shown = ecam::local_read(registers, cells, w);
     let config = ConfigSlot {
         state: FINISHED,
         write: false,
@@ -150,7 +160,7 @@ pub fn config_answer(c: ConfigSlot, payload: &[u8], v: Verdict) -> ConfigSlot
 
 // The configuration access is finished as SLVERR with zero data, and bit 8 is set.
 pub fn config_timeout(c: Core) -> Core
-    ensures { λ r. ⌜ r ≡ raisedCore cfgTimeout (withConfig (configDone (c .config) slverr 0) c) ⌝ }
+    ensures { λ r. ⌜ ((cells : List ℕ) → coreFrom r cells ≡ raisedCore cfgTimeout (withConfig (configDone (c .config) slverr 0) (coreFrom c cells))) ⌝ }
 {
     let config = c.config;
     let done = ConfigSlot {

@@ -11,10 +11,13 @@ use refusals::refusal_response;
 ghost use Rattle.parts.specs.Cores.{raisedCore};
 ghost use Rattle.parts.specs.Answers.{plain, accepted, refusal, refusalChange, responseOf};
 ghost use mathlib.Core.Path.{_≡_};
+ghost use mathlib.Core.List.{List};
+ghost use Prim.Native.Nat.{ℕ};
+ghost use Rattle.parts.specs.contracts.Struct.{coreFrom};
 
 // A decode bit is set.
 pub fn raise_in(c: Core, bit: u32) -> Core
-    ensures { λ r. ⌜ r ≡ raisedCore bit c ⌝ }
+    ensures { λ r. ⌜ ((cells : List ℕ) → coreFrom r cells ≡ raisedCore bit (coreFrom c cells)) ⌝ }
 {
     let mut r = c.registers;
     r.decode = ecam::raise(r.decode, bit);
@@ -38,7 +41,7 @@ pub fn response_of(code: u32) -> Response
 
 // The change column of the refusal table.
 pub fn refusal_change(n: u32, c: Core) -> Core
-    ensures { λ r. ⌜ r ≡ refusalChange n c ⌝ }
+    ensures { λ r. ⌜ ((cells : List ℕ) → coreFrom r cells ≡ refusalChange n (coreFrom c cells)) ⌝ }
 {
     if n == WRONG_BURST {
         return raise_in(c, SLAVE_ILLEGAL_BURST);
@@ -75,7 +78,7 @@ pub fn accepted_as(response: Response, slot: u32, sent: usize, word: u32) -> Ans
 
 // A refused event, with what its row changes.
 pub fn refuse(n: u32, c: Core) -> Done
-    ensures { λ r. ⌜ (r .core ≡ refusalChange n c) × (r .answer ≡ refusal n) ⌝ }
+    ensures { λ r. ⌜ ((cells : List ℕ) → coreFrom (r .core) cells ≡ refusalChange n (coreFrom c cells)) × (r .answer ≡ refusal n) ⌝ }
 {
     Done {
         core: refusal_change(n, c),

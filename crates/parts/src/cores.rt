@@ -5,15 +5,17 @@ use crate::access::free_config;
 use crate::answers::raise_in;
 use common::LINK_DOWN_BIT;
 use ecam::fresh_registers;
-ghost use Prim.Native.Nat.{_-_, _^_};
+ghost use Prim.Native.Nat.{ℕ, _-_, _^_};
+ghost use mathlib.Core.List.{List};
 ghost use mathlib.Core.Bool.{false};
 ghost use Rattle.parts.specs.Cores.{tagCount, withFree, withConfig, raisedCore, freshCore, linkIn};
 ghost use Rattle.common.specs.Decode.{linkDownBit};
 ghost use mathlib.Core.Path.{_≡_};
 ghost use Rattle.parts.specs.Access.{dropConfig};
+ghost use Rattle.parts.specs.contracts.Struct.{coreFrom};
 
 pub fn fresh_core() -> Core
-    ensures { λ r. ⌜ r ≡ freshCore ⌝ }
+    ensures { λ r. ⌜ ((cells : List ℕ) → coreFrom r cells ≡ freshCore) ⌝ }
 {
     Core {
         registers: fresh_registers(),
@@ -24,7 +26,7 @@ pub fn fresh_core() -> Core
 }
 
 pub fn with_link(c: Core, up: bool) -> Core
-    ensures { λ r. ⌜ r ≡ linkIn up c ⌝ }
+    ensures { λ r. ⌜ ((cells : List ℕ) → coreFrom r cells ≡ linkIn up (coreFrom c cells)) ⌝ }
 {
     let mut r = c.registers;
     r.link = up;
@@ -35,7 +37,7 @@ pub fn with_link(c: Core, up: bool) -> Core
 
 // Every tag is free, an open configuration access is finished, bit 0 is set.
 pub fn lost_core(c: Core) -> Core
-    ensures { λ r. ⌜ r ≡ raisedCore linkDownBit (linkIn false (withFree (2 ^ tagCount - 1) (withConfig (dropConfig (c .config)) c))) ⌝ }
+    ensures { λ r. ⌜ ((cells : List ℕ) → coreFrom r cells ≡ raisedCore linkDownBit (linkIn false (withFree (2 ^ tagCount - 1) (withConfig (dropConfig (c .config)) (coreFrom c cells))))) ⌝ }
 {
     let config = c.config;
     let mut d = c;

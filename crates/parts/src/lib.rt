@@ -84,7 +84,7 @@ pub struct Pending {
     pub kind: u32,
 }
 
-// What is not a table: small enough to pass by value.
+// What is not a table: small enough to pass by value. The queued error messages stand in cells that are lent beside it.
 pub struct Core {
     pub registers: Registers,
     pub ticks: u32,

@@ -1,13 +1,16 @@
-use borrow.Author.Needs.{needs}
 use Rattle.ecam.proofs.Words.{cleared-is}
+use borrow.Author.Needs.{needs}
 use Rattle.ecam.proofs.clear_ones.Statement.{statement}
 use Rattle.ecam.proofs.clear_ones.Tie as tie
+use Rattle.ecam.proofs.clear_ones.Reads as reads
+use Rattle.ecam.proofs.clear_ones.Lts as lts
+use Rattle.ecam.proofs.clearing.Reads as clearing-reads
 
-reach-requires : tie.Need-reach-requires
-reach-requires c κs = search needs
+clearing-requires : tie.Need-clearing-requires
+clearing-requires c κs = search needs
 
 returns : tie.Need-returns
-returns c = let s = c .before in cleared-is (s .args .w) (s .args .strobes) (s .args .«data») (c .reach .result) (s .fits .w .fits) (s .fits .«data» .fits) (c .reach .ensures)
+returns c = cleared-is (c .before .args .empty) (c .before .args .w) (c .before .args .strobes) (c .before .args .«data») (c .clearing .result) (c .before .fits .w .fits) (c .before .fits .«data» .fits) (c .clearing .ensures)
 
 pub clear-ones-spec : {M : Type 1} → statement M
-clear-ones-spec = tie.close (tie.spec reach-requires returns)
+clear-ones-spec = tie.close (tie.spec clearing-requires returns)

@@ -6,11 +6,11 @@ use Rattle.ecam.proofs.line.Tie as tie
 
 returns : tie.Need-returns
 unfolding line
-returns c = rw (c .if1 .taken)
+returns c = λ cells. rw (c .if1 .taken)
 
 returns-2 : tie.Need-returns-2
 unfolding line
-returns-2 c = rw (c .before .if1 .left) (shared-is (c .before .before .args .r .decode) (c .before .before .args .r .mask))
+returns-2 c = λ cells. rw (c .before .if1 .left) (shared-is (c .before .before .args .r .decode) (c .before .before .args .r .mask))
 
 pub line-spec : {M : Type 1} → statement M
 line-spec = tie.close (tie.spec returns returns-2)

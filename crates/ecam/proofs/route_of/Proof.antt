@@ -9,7 +9,7 @@ out-of-range-requires c κs = search needs
 
 returns : tie.Need-returns
 unfolding route
-returns c = rw (← c .before .out-of-range .ensures, c .if1 .taken)
+returns c = λ cells. rw (← c .before .out-of-range .ensures, c .if1 .taken)
 
 bus-requires : tie.Need-bus-requires
 bus-requires c κs = search needs
@@ -22,7 +22,7 @@ word-requires c κs = search needs
 
 returns-2 : tie.Need-returns-2
 unfolding route
-returns-2 c =
+returns-2 c = λ cells.
     rw (
       ← c .before .before .before .before .before .out-of-range .ensures,
       c .before .before .before .before .if1 .left,
@@ -37,7 +37,7 @@ long-requires-2 c κs = search needs
 
 returns-3 : tie.Need-returns-3
 unfolding route
-returns-3 c =
+returns-3 c = λ cells.
     rw (
       ← c .before .before .before .before .before .before .out-of-range .ensures,
       c .before .before .before .before .before .if1 .left,
@@ -53,7 +53,7 @@ long-requires-3 c κs = search needs
 
 returns-4 : tie.Need-returns-4
 unfolding route
-returns-4 c =
+returns-4 c = λ cells.
     rw (
       ← c .before .before .before .before .before .before .before .before .out-of-range .ensures,
       c .before .before .before .before .before .before .before .if1 .left,
@@ -71,7 +71,7 @@ device-requires c κs = search needs
 
 returns-5 : tie.Need-returns-5
 unfolding route
-returns-5 c =
+returns-5 c = λ cells.
     rw (
       ← c .before .before .before .before .before .before .before .before .before .before .out-of-range .ensures,
       c .before .before .before .before .before .before .before .before .before .if1 .left,
@@ -88,7 +88,7 @@ returns-5 c =
 
 returns-6 : tie.Need-returns-6
 unfolding route
-returns-6 c =
+returns-6 c = λ cells.
     rw (
       ← c .before .before .before .before .before .before .before .before .before .before .before .out-of-range .ensures,
       c .before .before .before .before .before .before .before .before .before .before .if1 .left,
@@ -106,7 +106,7 @@ returns-6 c =
 
 returns-7 : tie.Need-returns-7
 unfolding route
-returns-7 c =
+returns-7 c = λ cells.
     rw (
       ← c .before .before .before .before .before .before .before .before .before .before .before .out-of-range .ensures,
       c .before .before .before .before .before .before .before .before .before .before .if1 .left,

@@ -11,7 +11,7 @@ raise-requires c κs = search needs
 
 returns : tie.Need-returns
 unfolding raisedCore
-returns c = rw (c .raise .ensures)
+returns c = λ cells. rw (c .raise .ensures)
 
 pub raise-in-spec : {M : Type 1} → statement M
 raise-in-spec = tie.close (tie.spec raise-requires returns)

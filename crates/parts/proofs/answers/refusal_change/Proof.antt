@@ -24,7 +24,7 @@ returns-2 c = rw (c .before .if2 .taken) (c .raise-in2 .ensures)
 
 returns-3 : tie.Need-returns-3
 unfolding refusalChange
-returns-3 c = rw (other-keeps _ (ne-eqb _ _ (c .before .if1 .left)) (ne-eqb _ _ (c .if2 .left)))
+returns-3 c = λ cells. rw (other-keeps _ (ne-eqb _ _ (c .before .if1 .left)) (ne-eqb _ _ (c .if2 .left)))
 
 pub refusal-change-spec : {M : Type 1} → statement M
 refusal-change-spec =

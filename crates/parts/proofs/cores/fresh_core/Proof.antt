@@ -15,7 +15,7 @@ free-config-requires c κs = search needs
 
 returns : tie.Need-returns
 unfolding freshCore
-returns c = rw (c .before .fresh-registers .ensures, c .free-config .ensures)
+returns c = λ cells. rw (c .before .fresh-registers .ensures cells, c .free-config .ensures)
 
 pub fresh-core-spec : {M : Type 1} → statement M
 fresh-core-spec = tie.close (tie.spec fresh-registers-requires free-config-requires returns)

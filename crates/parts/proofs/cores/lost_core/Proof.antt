@@ -17,7 +17,7 @@ raise-in-requires : tie.Need-raise-in-requires
 raise-in-requires c κs = search needs
 
 returns : tie.Need-returns
-returns c = rw (c .raise-in .ensures, c .before .with-link .ensures, c .before .before .drop-config .ensures)
+returns c = λ cells. rw (c .raise-in .ensures cells, c .before .with-link .ensures cells, c .before .before .drop-config .ensures)
 
 pub lost-core-spec : {M : Type 1} → statement M
 lost-core-spec =

@@ -1,0 +1,20 @@
+-- The registers that the code's struct means, with the cells that hold the queued messages.
+use Prim.Native.Nat.{ℕ}
+use mathlib.Core.List.{List}
+use Rattle.messages.specs.contracts.Cells.{queueOf}
+use Rattle.ecam.specs.declared.Registers as code
+use Rattle.ecam.specs.Fields.{Registers}
+
+abbrev pub registersFrom : code.Registers → List ℕ → Registers
+registersFrom r cells =
+    record {
+      primary = r .primary;
+      secondary = r .secondary;
+      subordinate = r .subordinate;
+      disable = r .disable;
+      decode = r .decode;
+      mask = r .mask;
+      link = r .link;
+      errors = queueOf (r .errors) cells;
+      overflow = r .overflow;
+    }

@@ -1,0 +1,4 @@
+pub mod Queue
+pub mod Layout
+pub mod Laws
+pub mod contracts

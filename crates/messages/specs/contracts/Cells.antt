@@ -1,0 +1,13 @@
+-- The queue that an array of cells holds, in a circle: `count` entries, the oldest in the cell `first` mod 32.
+use Prim.Native.Nat.{ℕ, zero, suc, _%_}
+use mathlib.Core.List.{List, [], _∷_}
+use lib.ListN.{getD}
+use Rattle.messages.specs.Queue.{depth}
+use Rattle.messages.specs.declared.queue.Ring.{Ring}
+
+abbrev pub entries : ℕ → ℕ → List ℕ → List ℕ
+entries first zero cells = []
+entries first (suc n) cells = getD cells (first % depth) 0 ∷ entries (suc first) n cells
+
+abbrev pub queueOf : Ring → List ℕ → List ℕ
+queueOf r cells = entries (r .first) (r .count) cells

@@ -1,0 +1,3 @@
+// Messages that come over the link: their layout, and the queue that keeps the errors.
+pub mod layout;
+pub mod queue;

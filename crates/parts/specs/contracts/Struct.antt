@@ -1,0 +1,9 @@
+-- The core that the code's struct means, with the cells that hold the queued error messages.
+use Prim.Native.Nat.{ℕ}
+use mathlib.Core.List.{List}
+use Rattle.ecam.specs.contracts.Struct.{registersFrom}
+use Rattle.parts.specs.declared.Core as code
+use Rattle.parts.specs.Cores.{Core}
+
+abbrev pub coreFrom : code.Core → List ℕ → Core
+coreFrom c cells = record { registers = registersFrom (c .registers) cells; ticks = c .ticks; free = c .free; config = c .config }
