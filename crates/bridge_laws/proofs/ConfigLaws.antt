@@ -20,7 +20,7 @@ use Rattle.ecam.specs.declared.Route.the-variants.{OutOfRange, Local, Type0, Ty
 use Rattle.ecam.specs.Route.{numberOf}
 use Rattle.ecam.specs.Request.{configTarget, configRequest, dataBytes}
 use Rattle.ecam.proofs.Requests.{config-request-valid}
-use Rattle.parts.specs.declared.Core.{Core}
+use Rattle.parts.specs.Cores.{Core}
 use Rattle.machine.specs.Bridge.{Bridge}
 use Rattle.machine.specs.State.{tagCount, Answered, coreIn, refusalChange, refusal, answered, refused, registersOf}
 use Rattle.machine.specs.Memory.{areaSize, packet}

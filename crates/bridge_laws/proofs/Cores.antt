@@ -2,10 +2,10 @@
 use Prim.Native.Nat.{ℕ}
 use mathlib.Core.Path.{_≡_, refl, ap}
 use mathlib.Core.Bool.{Bool, true, false, cond}
-use Rattle.ecam.specs.declared.Registers.{Registers}
+use Rattle.ecam.specs.Registers.{Registers}
 use Rattle.ecam.specs.Registers.{raised, withDecode, localWrite, localRead}
 use Rattle.ecam.proofs.Writes.{write-only-named}
-use Rattle.parts.specs.declared.Core.{Core}
+use Rattle.parts.specs.Cores.{Core}
 use Rattle.parts.specs.Answers.{changed}
 use Rattle.refusals.specs.Table.{Change, keeps, sets, changeOf}
 use Rattle.machine.specs.State.{withRegisters, withConfig, doneConfig, okay, raisedCore, refusalChange}

@@ -11,7 +11,7 @@ use Rattle.bits.specs.Bits.{bit, isSet, fromBits}
 use Rattle.tags.proofs.Tags.{all-free}
 use Rattle.address.specs.declared.Settings.{Settings}
 use Rattle.address.specs.Settings.{powerAmong, eachFrom, windowRight, apart, windowsRight, settingsRight, settingsNumber, exampleSettings}
-use Rattle.ecam.specs.Registers.{some, decodeBits, isDecodeBit, fresh, shown, localRead, line}
+use Rattle.ecam.specs.Registers.{status, some, decodeBits, isDecodeBit, fresh, shown, localRead, line}
 use Rattle.machine.specs.Bridge.{Bridge}
 use Rattle.machine.specs.State.{Answered, tagCount, refusalChange, refusal, accepted, refused, freshCore, freshBridge, newBridge}
 use Rattle.machine.specs.Take.{stateIn}
@@ -29,7 +29,7 @@ none true x y e f = e
 none false x y e f = f
 
 word-reads : (v : ℕ) → localRead fresh v ≡ cond (eqb v 0x130) 0x0000000B 0
-unfolding localRead fresh
+unfolding localRead fresh shown status
 word-reads v = by (decLt v 0x130)
   where
     by : Dec (v < 0x130) → localRead fresh v ≡ cond (eqb v 0x130) 0x0000000B 0

@@ -8,7 +8,7 @@ use lib.ListN.{length}
 use lib.Dec.{eqb}
 use Rattle.burst.specs.declared.Burst.{Burst}
 use Rattle.refusals.specs.Table.{Change}
-use Rattle.parts.specs.declared.Core.{Core}
+use Rattle.parts.specs.Cores.{Core}
 use Rattle.parts.specs.Answers.{changed}
 use Rattle.parts.proofs.Changes.{other-keeps}
 use Rattle.machine.specs.Bridge.{Bridge}

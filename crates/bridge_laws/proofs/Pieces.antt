@@ -10,7 +10,7 @@ use Rattle.bits.proofs.Bits.{clear-clears}
 use Rattle.tags.specs.Tags.{lowest, available, without, lowestFew}
 use Rattle.tags.proofs.Tags.{lowest-is, rising, turn-takes, take-one-by-one}
 use Rattle.burst.specs.declared.Burst.{Burst}
-use Rattle.parts.specs.declared.Core.{Core}
+use Rattle.parts.specs.Cores.{Core}
 use Rattle.parts.specs.declared.Pending.{Pending}
 use Rattle.machine.specs.State.{Bridge, tagAt, slotAt, tagCount, opened}
 use Rattle.machine.specs.Memory.{pieceOf, piecePending, readTo}

@@ -8,7 +8,7 @@ use Rattle.tags.proofs.Tags.{take-one-by-one, turn-takes}
 use Rattle.address.specs.declared.Settings.{Settings}
 use Rattle.burst.specs.declared.Burst.{Burst}
 use Rattle.burst.specs.Bursts.{lengthOf}
-use Rattle.parts.specs.declared.Core.{Core}
+use Rattle.parts.specs.Cores.{Core}
 use Rattle.parts.specs.declared.Pending.{Pending}
 use Rattle.machine.specs.State.{Bridge, tagCount, withFree, opened, freeSlot}
 use Rattle.machine.specs.Memory.{piecesOf, pieceOf, readRefusal, claimed, readBridge, piecePending}

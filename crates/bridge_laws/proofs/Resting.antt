@@ -4,7 +4,7 @@ use mathlib.Core.Path.{_≡_, ap, _∙_}
 use mathlib.Core.Bool.{false}
 use Rattle.common.specs.Decode.{cfgTimeout}
 use Rattle.bits.specs.Bits.{isSet}
-use Rattle.parts.specs.declared.Core.{Core}
+use Rattle.parts.specs.Cores.{Core}
 use Rattle.machine.specs.Completions.{Held}
 use Rattle.bridge_laws.specs.Rows.{Resting}
 use Rattle.bridge_laws.specs.Effects.{Expires, memory, config, TimeoutRests}

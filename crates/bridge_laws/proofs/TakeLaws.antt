@@ -12,7 +12,7 @@ use lib.Dec.{ltb, eqb}
 use Rattle.refusals.specs.Table.{takeOrder, refusedBy}
 use Rattle.refusals.specs.declared.Response.the-variants.{Nothing, Okay, Slverr, Decerr, Wait}
 use Rattle.machine.specs.Bridge.{Bridge}
-use Rattle.parts.specs.declared.Core.{Core}
+use Rattle.parts.specs.Cores.{Core}
 use Rattle.parts.specs.declared.Answer.{Answer}
 use Rattle.machine.specs.State.{Answered, freeConfig, coreIn, responseOf, refusalChange, refusal, accepted, answered, refused}
 use Rattle.machine.specs.Completions.{storeSize, sizeOf}

@@ -10,7 +10,7 @@ use borrow.Author.Tests.{lt-ltb, le-ltb}
 use Rattle.tags.specs.Tags.{lowest}
 use Rattle.tags.proofs.Tags.{lowest-is}
 use Rattle.address.specs.declared.Settings.{Settings}
-use Rattle.parts.specs.declared.Core.{Core}
+use Rattle.parts.specs.Cores.{Core}
 use Rattle.parts.specs.declared.Pending.{Pending}
 use Rattle.verdict.specs.declared.Cause.{Cause}
 use Rattle.burst.specs.declared.Burst.{Burst}

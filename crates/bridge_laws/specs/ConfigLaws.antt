@@ -18,7 +18,7 @@ use Rattle.ecam.specs.declared.Route.the-variants.{Local}
 use Rattle.ecam.specs.Registers.{fresh, localRead, localWrite}
 use Rattle.refusals.specs.declared.Response.{Response}
 use Rattle.refusals.specs.Responses.{codeOf}
-use Rattle.parts.specs.declared.Core.{Core}
+use Rattle.parts.specs.Cores.{Core}
 use Rattle.machine.specs.Bridge.{Bridge}
 use Rattle.machine.specs.State.{tagCount, configSlot, configRead, configWrite, withRegisters, withConfig, freeConfig, openConfig, doneConfig, coreIn, putState, tagAt, slotAt, okay, responseOf, refusal, answered, newBridge, registersOf, lineOf}
 use Rattle.machine.specs.contracts.Passing.{Passed}

@@ -12,7 +12,7 @@ use Rattle.bits.specs.Bits.{isSet}
 use Rattle.tags.specs.Tags.{lowest, available}
 use Rattle.burst.specs.declared.Burst.{Burst}
 use Rattle.burst.specs.Bursts.{lengthOf}
-use Rattle.parts.specs.declared.Core.{Core}
+use Rattle.parts.specs.Cores.{Core}
 use Rattle.parts.specs.declared.Pending.{Pending}
 use Rattle.verdict.specs.declared.Cause.{Cause}
 use Rattle.verdict.specs.declared.Cause.the-variants.{Poison, Timeout}

@@ -7,7 +7,7 @@ use lib.Dec.{ltb, leb, eqb}
 use Rattle.bits.specs.Bits.{isSet, setBit, clearBit}
 use Rattle.tags.specs.Tags.{lowest}
 use Rattle.burst.specs.Words.{lowerAddress}
-use Rattle.parts.specs.declared.Core.{Core}
+use Rattle.parts.specs.Cores.{Core}
 use Rattle.parts.specs.declared.Pending.{Pending}
 use Rattle.machine.specs.State.{Bridge, missingOf, Tag, Slot, tagCount, slotSize, slotFree, slotOpen, slotFinished, okay, slverr, withFree}
 use Rattle.machine.specs.Completions.{zeroed}

@@ -37,14 +37,14 @@ ghost use mathlib.Core.Bool.{true, false, cond};
 ghost use Prim.Native.Nat.{ℕ, _+_, _*_, _≤_, _<_};
 ghost use lib.ListN.{length};
 ghost use Rattle.tlp.specs.Completion.{validCompletion};
-ghost use Rattle.address.specs.declared.Settings.{Settings};
 ghost use Rattle.parts.specs.declared.Core.{Core};
+ghost use Rattle.parts.specs.contracts.Struct.{coreFrom};
 ghost use Rattle.parts.specs.Sizes.{tagCount, storeSize};
 ghost use Rattle.refusals.specs.Table.{notExpected};
 ghost use Rattle.machine.specs.State.{coreIn, refusalChange};
 ghost use Rattle.machine.specs.Completions.{held, configCompleted, verdictOf, isUnexpected, expected, completeRefusal, completed, plain};
 ghost use Rattle.machine.specs.contracts.Expected.{Expects};
-ghost use Rattle.machine.specs.contracts.Tables.{bridgeOf, heldOf};
+ghost use Rattle.machine.specs.contracts.Tables.{Fixed, bridgeOf, heldOf};
 
 // The configuration access is finished, and its tag is free.
 fn finish_config_in(
@@ -55,7 +55,7 @@ fn finish_config_in(
     v: Verdict,
 ) -> Core
     requires { ⌜ tag < tagCount ⌝ }
-    ensures { λ r. ⌜ ((s : Settings) (t x : List ℕ) → bridgeOf s r (now (missing .exit)) t x ≡ configCompleted (bridgeOf s c (now (missing .entry)) t x) tag (now (payload .entry)) v) ⌝ }
+    ensures { λ r. ⌜ ((s : Fixed) (t x : List ℕ) → bridgeOf s r (now (missing .exit)) t x ≡ configCompleted (bridgeOf s c (now (missing .entry)) t x) tag (now (payload .entry)) v) ⌝ }
 {
     let slot = c.config;
     let answer = config_answer(slot, payload, v);
@@ -72,7 +72,7 @@ fn verdict_in(
     tags: &[u32; TAG_CELLS],
     h: Completion,
 ) -> Verdict
-    ensures { λ r. ⌜ ((s : Settings) (c : Core) (x : List ℕ) → s .requester ≡ requester → r ≡ verdictOf (bridgeOf s c (now (missing .entry)) (now (tags .entry)) x) h) × (isUnexpected r ≡ false → Expects (now (missing .entry)) (now (tags .entry)) h r) ⌝ }
+    ensures { λ r. ⌜ ((s : Fixed) (c : Core) (x : List ℕ) → s .settings .requester ≡ requester → r ≡ verdictOf (bridgeOf s c (now (missing .entry)) (now (tags .entry)) x) h) × (isUnexpected r ≡ false → Expects (now (missing .entry)) (now (tags .entry)) h r) ⌝ }
 {
     if h.requester != requester {
         return Verdict::Unexpected;
@@ -106,8 +106,8 @@ fn header_in(
     payload: &[u8],
 ) -> Done
     requires { ⌜ (storeSize ≤ length (now store)) × ((validCompletion h ≡ true) × (length (now payload) ≡ 4 * h .length)) ⌝ }
-    ensures tables { λ r. ⌜ ((s : Settings) → s .requester ≡ requester → heldOf s (r .core) (now (missing .exit)) (now (tags .exit)) (now (slots .exit)) (now (store .exit)) ≡ cond (isUnexpected (verdictOf (bridgeOf s c (now (missing .entry)) (now (tags .entry)) (now (slots .entry))) h)) (heldOf s (refusalChange notExpected c) (now (missing .entry)) (now (tags .entry)) (now (slots .entry)) (now (store .entry))) (expected (heldOf s c (now (missing .entry)) (now (tags .entry)) (now (slots .entry)) (now (store .entry))) h (now (payload .entry)))) ⌝ }
-    ensures answer { λ r. ⌜ ((s : Settings) → s .requester ≡ requester → r .answer ≡ plain (cond (isUnexpected (verdictOf (bridgeOf s c (now (missing .entry)) (now (tags .entry)) (now (slots .entry))) h)) notExpected 0)) ⌝ }
+    ensures tables { λ r. ⌜ ((s : Fixed) → s .settings .requester ≡ requester → heldOf s (r .core) (now (missing .exit)) (now (tags .exit)) (now (slots .exit)) (now (store .exit)) ≡ cond (isUnexpected (verdictOf (bridgeOf s c (now (missing .entry)) (now (tags .entry)) (now (slots .entry))) h)) (held (coreIn (refusalChange notExpected (coreFrom c (s .cells))) (bridgeOf s c (now (missing .entry)) (now (tags .entry)) (now (slots .entry)))) (now (store .entry))) (expected (heldOf s c (now (missing .entry)) (now (tags .entry)) (now (slots .entry)) (now (store .entry))) h (now (payload .entry)))) ⌝ }
+    ensures answer { λ r. ⌜ ((s : Fixed) → s .settings .requester ≡ requester → r .answer ≡ plain (cond (isUnexpected (verdictOf (bridgeOf s c (now (missing .entry)) (now (tags .entry)) (now (slots .entry))) h)) notExpected 0)) ⌝ }
 {
     let v = verdict_in(requester, missing, tags, h);
     if is_unexpected(v) {
@@ -139,8 +139,8 @@ pub fn complete_in(
     store: &mut [u8],
     packet: &[u8],
 ) -> Done
-    ensures tables { λ r. ⌜ ((s : Settings) → s .requester ≡ requester → heldOf s (r .core) (now (missing .exit)) (now (tags .exit)) (now (slots .exit)) (now (store .exit)) ≡ completed (heldOf s c (now (missing .entry)) (now (tags .entry)) (now (slots .entry)) (now (store .entry))) (now (packet .entry))) ⌝ }
-    ensures answer { λ r. ⌜ ((s : Settings) → s .requester ≡ requester → r .answer ≡ plain (completeRefusal (bridgeOf s c (now (missing .entry)) (now (tags .entry)) (now (slots .entry))) (length (now (store .entry))) (now (packet .entry)))) ⌝ }
+    ensures tables { λ r. ⌜ ((s : Fixed) → s .settings .requester ≡ requester → heldOf s (r .core) (now (missing .exit)) (now (tags .exit)) (now (slots .exit)) (now (store .exit)) ≡ completed (heldOf s c (now (missing .entry)) (now (tags .entry)) (now (slots .entry)) (now (store .entry))) (now (packet .entry))) ⌝ }
+    ensures answer { λ r. ⌜ ((s : Fixed) → s .settings .requester ≡ requester → r .answer ≡ plain (completeRefusal (bridgeOf s c (now (missing .entry)) (now (tags .entry)) (now (slots .entry))) (length (now (store .entry))) (now (packet .entry)))) ⌝ }
 {
     if store.len() < STORE_SIZE {
         return refuse(TOO_SHORT, c);

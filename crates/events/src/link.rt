@@ -14,16 +14,15 @@ ghost use mathlib.Core.Path.{_≡_};
 ghost use mathlib.Core.List.{List};
 ghost use Prim.Native.Nat.{ℕ, _≤_};
 ghost use lib.ListN.{length};
-ghost use Rattle.address.specs.declared.Settings.{Settings};
 ghost use Rattle.parts.specs.declared.Core.{Core};
 ghost use Rattle.parts.specs.Sizes.{slotCount};
 ghost use Rattle.machine.specs.Completions.{storeSize, plain};
 ghost use Rattle.machine.specs.Ticks.{storeRefusal, dropSlots, linked};
-ghost use Rattle.machine.specs.contracts.Tables.{heldOf};
+ghost use Rattle.machine.specs.contracts.Tables.{Fixed, heldOf};
 
 fn drop_slots_in(slots: &mut [u32; SLOT_CELLS], store: &mut [u8])
     requires { ⌜ storeSize ≤ length (now store) ⌝ }
-    ensures { λ _. ⌜ ((s : Settings) (d : Core) (m t : List ℕ) → heldOf s d m t (now (slots .exit)) (now (store .exit)) ≡ dropSlots (heldOf s d m t (now (slots .entry)) (now (store .entry))) slotCount) ⌝ }
+    ensures { λ _. ⌜ ((s : Fixed) (d : Core) (m t : List ℕ) → heldOf s d m t (now (slots .exit)) (now (store .exit)) ≡ dropSlots (heldOf s d m t (now (slots .entry)) (now (store .entry))) slotCount) ⌝ }
 {
     let mut k = 0;
     while k < SLOTS {
@@ -41,7 +40,7 @@ pub fn link_in(
     up: bool,
 ) -> Done
     ensures answer { λ r. ⌜ r .answer ≡ plain (storeRefusal (length (now (store .entry)))) ⌝ }
-    ensures tables { λ r. ⌜ ((s : Settings) (t : List ℕ) → heldOf s (r .core) (now (missing .exit)) t (now (slots .exit)) (now (store .exit)) ≡ linked up (heldOf s c (now (missing .entry)) t (now (slots .entry)) (now (store .entry)))) ⌝ }
+    ensures tables { λ r. ⌜ ((s : Fixed) (t : List ℕ) → heldOf s (r .core) (now (missing .exit)) t (now (slots .exit)) (now (store .exit)) ≡ linked up (heldOf s c (now (missing .entry)) t (now (slots .entry)) (now (store .entry)))) ⌝ }
 {
     if store.len() < STORE_SIZE {
         return Done {

@@ -25,7 +25,7 @@ ghost use Rattle.tags.specs.Tags.{available};
 ghost use Rattle.parts.specs.Sizes.{tagCount, areaSize};
 ghost use Rattle.machine.specs.State.{answered};
 ghost use Rattle.machine.specs.Memory.{filled, piecesOf, readTo, readSent, readStep, readArea, writeStep, writeArea};
-ghost use Rattle.machine.specs.contracts.Tables.{bridgeOf};
+ghost use Rattle.machine.specs.contracts.Tables.{fixed, bridgeOf};
 
 // ---- reads
 
@@ -40,9 +40,9 @@ fn read_pieces(
     area: &mut [u8],
 ) -> Turn
     requires { ⌜ (piecesOf (s .reads) q ≤ available tagCount (c .free)) × (areaSize ≤ length (now area)) ⌝ }
-    ensures tables { λ r. ⌜ ((x : List ℕ) → bridgeOf s (r .core) (now (missing .exit)) (now (tags .exit)) x ≡ readTo slot q (bridgeOf s c (now (missing .entry)) (now (tags .entry)) x) (piecesOf (s .reads) q)) ⌝ }
-    ensures at { λ r. ⌜ ((x : List ℕ) → r .at ≡ length (readSent slot q (bridgeOf s c (now (missing .entry)) (now (tags .entry)) x) (piecesOf (s .reads) q))) ⌝ }
-    ensures area { λ r. ⌜ ((x : List ℕ) → now (area .exit) ≡ filled (readSent slot q (bridgeOf s c (now (missing .entry)) (now (tags .entry)) x) (piecesOf (s .reads) q)) (now (area .entry))) ⌝ }
+    ensures tables { λ r. ⌜ ((cells x : List ℕ) → bridgeOf (fixed s cells) (r .core) (now (missing .exit)) (now (tags .exit)) x ≡ readTo slot q (bridgeOf (fixed s cells) c (now (missing .entry)) (now (tags .entry)) x) (piecesOf (s .reads) q)) ⌝ }
+    ensures at { λ r. ⌜ ((cells x : List ℕ) → r .at ≡ length (readSent slot q (bridgeOf (fixed s cells) c (now (missing .entry)) (now (tags .entry)) x) (piecesOf (s .reads) q))) ⌝ }
+    ensures area { λ r. ⌜ ((cells x : List ℕ) → now (area .exit) ≡ filled (readSent slot q (bridgeOf (fixed s cells) c (now (missing .entry)) (now (tags .entry)) x) (piecesOf (s .reads) q)) (now (area .entry))) ⌝ }
 {
     let start = q.start;
     let windows = s.windows;
@@ -85,8 +85,8 @@ pub fn read_in(
     q: Burst,
     area: &mut [u8],
 ) -> Done
-    ensures step { λ r. ⌜ answered (bridgeOf s (r .core) (now (missing .exit)) (now (tags .exit)) (now (slots .exit))) (r .answer) ≡ readStep (bridgeOf s c (now (missing .entry)) (now (tags .entry)) (now (slots .entry))) q (length (now (area .entry))) ⌝ }
-    ensures area { λ r. ⌜ now (area .exit) ≡ readArea (bridgeOf s c (now (missing .entry)) (now (tags .entry)) (now (slots .entry))) q (now (area .entry)) ⌝ }
+    ensures step { λ r. ⌜ ((cells : List ℕ) → answered (bridgeOf (fixed s cells) (r .core) (now (missing .exit)) (now (tags .exit)) (now (slots .exit))) (r .answer) ≡ readStep (bridgeOf (fixed s cells) c (now (missing .entry)) (now (tags .entry)) (now (slots .entry))) q (length (now (area .entry)))) ⌝ }
+    ensures area { λ r. ⌜ ((cells : List ℕ) → now (area .exit) ≡ readArea (bridgeOf (fixed s cells) c (now (missing .entry)) (now (tags .entry)) (now (slots .entry))) q (now (area .entry))) ⌝ }
 {
     let table = *slots;
     let slot = free_slot(table);
@@ -107,8 +107,8 @@ pub fn read_in(
 
 // A memory write: it changes no table.
 pub fn write_in(s: Settings, c: Core, q: Burst, bytes: &[u8], area: &mut [u8]) -> Done
-    ensures step { λ r. ⌜ ((m t x : List ℕ) → answered (bridgeOf s (r .core) m t x) (r .answer) ≡ writeStep (bridgeOf s c m t x) q (now (bytes .entry)) (length (now (area .entry)))) ⌝ }
-    ensures area { λ r. ⌜ ((m t x : List ℕ) → now (area .exit) ≡ writeArea (bridgeOf s c m t x) q (now (bytes .entry)) (now (area .entry))) ⌝ }
+    ensures step { λ r. ⌜ ((cells m t x : List ℕ) → answered (bridgeOf (fixed s cells) (r .core) m t x) (r .answer) ≡ writeStep (bridgeOf (fixed s cells) c m t x) q (now (bytes .entry)) (length (now (area .entry)))) ⌝ }
+    ensures area { λ r. ⌜ ((cells m t x : List ℕ) → now (area .exit) ≡ writeArea (bridgeOf (fixed s cells) c m t x) q (now (bytes .entry)) (now (area .entry))) ⌝ }
 {
     let number = write_refusal(s, c, q, bytes.len(), area.len());
     if number != 0 {

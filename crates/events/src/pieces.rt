@@ -13,13 +13,12 @@ ghost use mathlib.Core.Path.{_≡_};
 ghost use mathlib.Core.Bool.{true};
 ghost use Prim.Native.Nat.{_+_, _*_, _%_, _≤_, _<_};
 ghost use lib.ListN.{length, getD};
-ghost use Rattle.address.specs.declared.Settings.{Settings};
 ghost use Rattle.parts.specs.Sizes.{tagCount, slotCount, storeSize};
 ghost use Rattle.parts.specs.contracts.Columns.{placeColumn};
 ghost use Rattle.machine.specs.State.{isOpen};
 ghost use Rattle.machine.specs.Completions.{memoryCompleted};
 ghost use Rattle.machine.specs.contracts.Expected.{Fits};
-ghost use Rattle.machine.specs.contracts.Tables.{heldOf};
+ghost use Rattle.machine.specs.contracts.Tables.{Fixed, heldOf};
 
 pub fn memory_in(
     c: Core,
@@ -33,7 +32,7 @@ pub fn memory_in(
     v: Verdict,
 ) -> Core
     requires { ⌜ (storeSize ≤ length (now store)) × ((h .tag < tagCount) × ((k < slotCount) × ((isOpen (getD (now missing) (h .tag) 0) (getD (now tags) (placeColumn + h .tag) 0) ≡ true) × ((length (now payload) ≡ 4 * h .length) × Fits h (getD (now missing) (h .tag) 0) v)))) ⌝ }
-    ensures { λ r. ⌜ ((s : Settings) → heldOf s r (now (missing .exit)) (now (tags .exit)) (now (slots .exit)) (now (store .exit)) ≡ memoryCompleted (heldOf s c (now (missing .entry)) (now (tags .entry)) (now (slots .entry)) (now (store .entry))) (h .tag) k (h .lower % 4) (now (payload .entry)) v) ⌝ }
+    ensures { λ r. ⌜ ((s : Fixed) → heldOf s r (now (missing .exit)) (now (tags .exit)) (now (slots .exit)) (now (store .exit)) ≡ memoryCompleted (heldOf s c (now (missing .entry)) (now (tags .entry)) (now (slots .entry)) (now (store .entry))) (h .tag) k (h .lower % 4) (now (payload .entry)) v) ⌝ }
 {
     let tag = h.tag;
     let skip = index(h.lower % 4);

@@ -22,14 +22,13 @@ ghost use mathlib.Core.Path.{_≡_};
 ghost use mathlib.Core.List.{List};
 ghost use Prim.Native.Nat.{ℕ};
 ghost use lib.ListN.{length};
-ghost use Rattle.address.specs.declared.Settings.{Settings};
 ghost use Rattle.machine.specs.State.{answered};
 ghost use Rattle.machine.specs.Take.{takeRefusal, looked, releaseStep};
-ghost use Rattle.machine.specs.contracts.Tables.{bridgeOf};
+ghost use Rattle.machine.specs.contracts.Tables.{Fixed, bridgeOf};
 
 // The number of a look or a release at a slot, 0 where it is accepted.
 pub fn take_number_in(c: Core, slots: &[u32; SLOT_CELLS], store: &[u8], slot: u32) -> u32
-    ensures { λ r. ⌜ ((s : Settings) (m t : List ℕ) → r ≡ takeRefusal (bridgeOf s c m t (now (slots .entry))) (length (now (store .entry))) slot) ⌝ }
+    ensures { λ r. ⌜ ((s : Fixed) (m t : List ℕ) → r ≡ takeRefusal (bridgeOf s c m t (now (slots .entry))) (length (now (store .entry))) slot) ⌝ }
 {
     let config = c.config;
     let found = state_in(config.state, slots, slot);
@@ -38,7 +37,7 @@ pub fn take_number_in(c: Core, slots: &[u32; SLOT_CELLS], store: &[u8], slot: u3
 
 // The part of the store that holds a finished read.
 pub fn look_in<'a>(c: Core, slots: &[u32; SLOT_CELLS], store: &'a [u8], slot: u32) -> &'a [u8]
-    ensures { λ r. ⌜ ((s : Settings) (m t : List ℕ) → now r ≡ looked (bridgeOf s c m t (now (slots .entry))) (now (store .entry)) slot) ⌝ }
+    ensures { λ r. ⌜ ((s : Fixed) (m t : List ℕ) → now r ≡ looked (bridgeOf s c m t (now (slots .entry))) (now (store .entry)) slot) ⌝ }
 {
     if store.len() < STORE_SIZE {
         return &store[..0];
@@ -60,7 +59,7 @@ pub fn look_in<'a>(c: Core, slots: &[u32; SLOT_CELLS], store: &'a [u8], slot: u3
 
 // A finished slot is free, and its response and data word are handed out.
 pub fn release_in(c: Core, slots: &mut [u32; SLOT_CELLS], store: &[u8], slot: u32) -> Done
-    ensures { λ r. ⌜ ((s : Settings) (m t : List ℕ) → answered (bridgeOf s (r .core) m t (now (slots .exit))) (r .answer) ≡ releaseStep (bridgeOf s c m t (now (slots .entry))) (length (now (store .entry))) slot) ⌝ }
+    ensures { λ r. ⌜ ((s : Fixed) (m t : List ℕ) → answered (bridgeOf s (r .core) m t (now (slots .exit))) (r .answer) ≡ releaseStep (bridgeOf s c m t (now (slots .entry))) (length (now (store .entry))) slot) ⌝ }
 {
     let config = c.config;
     let found = state_in(config.state, slots, slot);

@@ -24,11 +24,10 @@ use verdict::Cause;
 ghost use mathlib.Core.Path.{_≡_};
 ghost use Prim.Native.Nat.{ℕ, _≤_, _<_};
 ghost use lib.ListN.{length, getD};
-ghost use Rattle.address.specs.declared.Settings.{Settings};
 ghost use Rattle.parts.specs.Sizes.{tagCount};
 ghost use Rattle.machine.specs.Completions.{storeSize, plain};
 ghost use Rattle.machine.specs.Ticks.{storeRefusal, timedOut, expireTo, ticked, tickedTo};
-ghost use Rattle.machine.specs.contracts.Tables.{heldOf};
+ghost use Rattle.machine.specs.contracts.Tables.{Fixed, heldOf};
 
 // A request is closed, and its tag rests.
 fn time_out_in(
@@ -40,7 +39,7 @@ fn time_out_in(
     t: usize,
 ) -> Core
     requires { ⌜ (storeSize ≤ length (now store)) × (t < tagCount) ⌝ }
-    ensures { λ r. ⌜ ((s : Settings) → heldOf s r (now (missing .exit)) (now (tags .entry)) (now (slots .exit)) (now (store .exit)) ≡ timedOut t (heldOf s c (now (missing .entry)) (now (tags .entry)) (now (slots .entry)) (now (store .entry)))) ⌝ }
+    ensures { λ r. ⌜ ((s : Fixed) → heldOf s r (now (missing .exit)) (now (tags .entry)) (now (slots .exit)) (now (store .exit)) ≡ timedOut t (heldOf s c (now (missing .entry)) (now (tags .entry)) (now (slots .entry)) (now (store .entry)))) ⌝ }
 {
     let k = index(tags[OWNER + t]);
     if k < SLOTS {
@@ -63,7 +62,7 @@ fn expire_all_in(
     store: &mut [u8],
 ) -> Core
     requires { ⌜ storeSize ≤ length (now store) ⌝ }
-    ensures { λ r. ⌜ ((s : Settings) → s .limit ≡ limit → heldOf s r (now (missing .exit)) (now (tags .entry)) (now (slots .exit)) (now (store .exit)) ≡ expireTo (heldOf s c (now (missing .entry)) (now (tags .entry)) (now (slots .entry)) (now (store .entry))) tagCount) ⌝ }
+    ensures { λ r. ⌜ ((s : Fixed) → s .settings .limit ≡ limit → heldOf s r (now (missing .exit)) (now (tags .entry)) (now (slots .exit)) (now (store .exit)) ≡ expireTo (heldOf s c (now (missing .entry)) (now (tags .entry)) (now (slots .entry)) (now (store .entry))) tagCount) ⌝ }
 {
     let mut d = c;
     let mut t = 0;
@@ -101,7 +100,7 @@ fn step_in(
     store: &mut [u8],
 ) -> Core
     requires { ⌜ storeSize ≤ length (now store) ⌝ }
-    ensures { λ r. ⌜ ((s : Settings) → s .limit ≡ limit → heldOf s r (now (missing .exit)) (now (tags .entry)) (now (slots .exit)) (now (store .exit)) ≡ ticked (heldOf s c (now (missing .entry)) (now (tags .entry)) (now (slots .entry)) (now (store .entry)))) ⌝ }
+    ensures { λ r. ⌜ ((s : Fixed) → s .settings .limit ≡ limit → heldOf s r (now (missing .exit)) (now (tags .entry)) (now (slots .exit)) (now (store .exit)) ≡ ticked (heldOf s c (now (missing .entry)) (now (tags .entry)) (now (slots .entry)) (now (store .entry)))) ⌝ }
 {
     let mut d = c;
     d.ticks = next_tick(c.ticks);
@@ -122,7 +121,7 @@ pub fn tick_in(
     store: &mut [u8],
 ) -> Done
     ensures answer { λ r. ⌜ r .answer ≡ plain (storeRefusal (length (now (store .entry)))) ⌝ }
-    ensures tables { λ r. ⌜ ((s : Settings) → s .limit ≡ limit → heldOf s (r .core) (now (missing .exit)) (now (tags .entry)) (now (slots .exit)) (now (store .exit)) ≡ ticked (heldOf s c (now (missing .entry)) (now (tags .entry)) (now (slots .entry)) (now (store .entry)))) ⌝ }
+    ensures tables { λ r. ⌜ ((s : Fixed) → s .settings .limit ≡ limit → heldOf s (r .core) (now (missing .exit)) (now (tags .entry)) (now (slots .exit)) (now (store .exit)) ≡ ticked (heldOf s c (now (missing .entry)) (now (tags .entry)) (now (slots .entry)) (now (store .entry)))) ⌝ }
 {
     if store.len() < STORE_SIZE {
         return Done {
@@ -147,7 +146,7 @@ fn steps_in(
     times: u32,
 ) -> Core
     requires { ⌜ storeSize ≤ length (now store) ⌝ }
-    ensures { λ r. ⌜ ((s : Settings) → s .limit ≡ limit → heldOf s r (now (missing .exit)) (now (tags .entry)) (now (slots .exit)) (now (store .exit)) ≡ tickedTo (heldOf s c (now (missing .entry)) (now (tags .entry)) (now (slots .entry)) (now (store .entry))) times) ⌝ }
+    ensures { λ r. ⌜ ((s : Fixed) → s .settings .limit ≡ limit → heldOf s r (now (missing .exit)) (now (tags .entry)) (now (slots .exit)) (now (store .exit)) ≡ tickedTo (heldOf s c (now (missing .entry)) (now (tags .entry)) (now (slots .entry)) (now (store .entry))) times) ⌝ }
 {
     let mut d = c;
     let mut done = 0u32;
@@ -174,7 +173,7 @@ pub fn ticks_in(
     times: u32,
 ) -> Done
     ensures answer { λ r. ⌜ r .answer ≡ plain (storeRefusal (length (now (store .entry)))) ⌝ }
-    ensures tables { λ r. ⌜ ((s : Settings) → s .limit ≡ limit → heldOf s (r .core) (now (missing .exit)) (now (tags .entry)) (now (slots .exit)) (now (store .exit)) ≡ tickedTo (heldOf s c (now (missing .entry)) (now (tags .entry)) (now (slots .entry)) (now (store .entry))) times) ⌝ }
+    ensures tables { λ r. ⌜ ((s : Fixed) → s .settings .limit ≡ limit → heldOf s (r .core) (now (missing .exit)) (now (tags .entry)) (now (slots .exit)) (now (store .exit)) ≡ tickedTo (heldOf s c (now (missing .entry)) (now (tags .entry)) (now (slots .entry)) (now (store .entry))) times) ⌝ }
 {
     if store.len() < STORE_SIZE {
         return Done {

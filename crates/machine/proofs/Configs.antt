@@ -20,7 +20,7 @@ use Rattle.tlp.specs.Request.{targetBytes, requestBytes}
 use Rattle.ecam.specs.declared.Route.{Route}
 use Rattle.ecam.specs.declared.Route.the-variants.{OutOfRange, Local, Type0, Type1, NotRouted, DeviceNotZero}
 use Rattle.ecam.specs.Route.{route, numberOf}
-use Rattle.parts.specs.declared.Core.{Core}
+use Rattle.parts.specs.Cores.{Core}
 use Rattle.machine.specs.Bridge.{Bridge}
 use Rattle.refusals.specs.declared.Response.the-variants.{Nothing}
 use Rattle.machine.specs.contracts.Passing.{stayed}

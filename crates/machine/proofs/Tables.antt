@@ -6,17 +6,16 @@ use native.Mathlib.Omega.{arith}
 use native.Mathlib.Decide.{decLt}
 use lib.ListN.{set, getD, length}
 use lib.Seq.{ext-getD}
-use Rattle.address.specs.declared.Settings.{Settings}
 use Rattle.parts.specs.declared.Core.{Core}
 use Rattle.parts.specs.Sizes.{tagCount, slotCount}
 use Rattle.parts.specs.contracts.Columns.{column, tagCells, slotCells, sentColumn, ownerColumn, placeColumn, nextColumn, kindColumn, stateColumn, sizeColumn, piecesColumn, faultColumn, causeColumn}
 use Rattle.parts.proofs.Columns.{at, below, above, get}
 use Rattle.machine.specs.Bridge.{Bridge, setSent, setOwner, setPlace, setNext, setKind, setState, setSize, setPieces, setFault, setCause}
-use Rattle.machine.specs.contracts.Tables.{bridgeOf}
+use Rattle.machine.specs.contracts.Tables.{Fixed, bridgeOf}
 
 -- ---- by tag
 
-module _ (s : Settings) (d : Core) (m t x : List ℕ) (k v : ℕ) (h : k < tagCount) where
+module _ (s : Fixed) (d : Core) (m t x : List ℕ) (k v : ℕ) (h : k < tagCount) where
   pub put-sent : bridgeOf s d m (set t (sentColumn + k) v) x ≡ setSent k v (bridgeOf s d m t x)
   put-sent =
       rw (
@@ -69,7 +68,7 @@ module _ (s : Settings) (d : Core) (m t x : List ℕ) (k v : ℕ) (h : k < tagCo
 
 -- ---- by slot
 
-module _ (s : Settings) (d : Core) (m t x : List ℕ) (k v : ℕ) (h : k < slotCount) where
+module _ (s : Fixed) (d : Core) (m t x : List ℕ) (k v : ℕ) (h : k < slotCount) where
   pub put-state : bridgeOf s d m t (set x (stateColumn + k) v) ≡ setState k v (bridgeOf s d m t x)
   put-state =
       rw (
@@ -143,7 +142,7 @@ five n x y lx ly a b c d e = ext-getD 0 x y (lx ∙ sym ly) (λ i l. by i (omega
     by i l (no p) (no q) (no r) (yes s) = agree n (3 * n) x y d i (omega arith) (omega arith)
     by i l (no p) (no q) (no r) (no s) = agree n (4 * n) x y e i (omega arith) (omega arith)
 
-module _ (s r : Settings) (c d : Core) (m n t u x y : List ℕ) (e : bridgeOf s c m t x ≡ bridgeOf r d n u y) where
+module _ (s r : Fixed) (c d : Core) (m n t u x y : List ℕ) (e : bridgeOf s c m t x ≡ bridgeOf r d n u y) where
   pub same-tags : length t ≡ tagCells → length u ≡ tagCells → t ≡ u
   same-tags v w =
       five tagCount t u v w (ap (λ (b : Bridge). b .sent) e) (ap (λ (b : Bridge). b .owner) e) (ap (λ (b : Bridge). b .place) e) (ap (λ (b : Bridge). b .next) e)

@@ -5,7 +5,7 @@ use Prim.Native.Nat.{ℕ, min}
 use mathlib.Core.List.{List}
 use lib.ListN.{getD, set}
 use Rattle.address.specs.declared.Settings.{Settings}
-use Rattle.parts.specs.declared.Core.{Core}
+use Rattle.parts.specs.Cores.{Core}
 use Rattle.parts.specs.Sizes.{slotSize}
 
 pub record Bridge : Type 0 where

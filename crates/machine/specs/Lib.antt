@@ -10,5 +10,6 @@ pub mod Verdict
 pub mod Completions
 pub mod Ticks
 pub mod Take
+pub mod Messages
 -- what stands between the definitions and the code
 pub mod contracts

@@ -11,7 +11,7 @@ use Rattle.address.specs.Windows.{foundNumber}
 use Rattle.burst.specs.declared.Burst.{Burst}
 use Rattle.burst.specs.Bursts.{burstNumber, dataNumber}
 use Rattle.packets.specs.Packets.{windowFor, piecesOf}
-use Rattle.parts.specs.declared.Core.{Core}
+use Rattle.parts.specs.Cores.{Core}
 use Rattle.parts.specs.Sizes.{tagCount, slotCount, areaSize, slotOpen}
 
 abbrev pub readNumber : Settings → Core → ℕ → Burst → ℕ → ℕ

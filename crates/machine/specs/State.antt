@@ -11,7 +11,7 @@ use Rattle.tags.specs.Tags.{lowest}
 use Rattle.address.specs.declared.Settings.{Settings}
 use Rattle.address.specs.Settings.{settingsNumber, exampleSettings}
 use Rattle.burst.specs.Words.{lowerAddress}
-use Rattle.ecam.specs.declared.Registers.{Registers}
+use Rattle.ecam.specs.Registers.{Registers}
 use Rattle.ecam.specs.Registers.{line}
 use Rattle.refusals.specs.declared.Response.the-variants.{Nothing}
 use Rattle.refusals.specs.Table.{setting}

@@ -15,11 +15,14 @@ use refusals::TOO_SHORT;
 use refusals::WRONG_BURST;
 use refusals::WRONG_DATA;
 ghost use mathlib.Core.Path.{_≡_};
+ghost use mathlib.Core.List.{List};
+ghost use Prim.Native.Nat.{ℕ};
+ghost use Rattle.parts.specs.contracts.Struct.{coreFrom};
 ghost use Rattle.machine.specs.Refusals.{readNumber, writeNumber};
 
 // The refusal number of a read whose lowest free slot is given.
 pub fn read_refusal(s: Settings, c: Core, slot: u32, q: Burst, room: usize) -> u32
-    ensures { λ r. ⌜ r ≡ readNumber s c slot q room ⌝ }
+    ensures { λ r. ⌜ ((cells : List ℕ) → r ≡ readNumber s (coreFrom c cells) slot q room) ⌝ }
 {
     if room < AREA_SIZE {
         return TOO_SHORT;
@@ -51,7 +54,7 @@ pub fn read_refusal(s: Settings, c: Core, slot: u32, q: Burst, room: usize) -> u
 
 // The refusal number of a write of len bytes.
 pub fn write_refusal(s: Settings, c: Core, q: Burst, len: usize, room: usize) -> u32
-    ensures { λ r. ⌜ r ≡ writeNumber s c q len room ⌝ }
+    ensures { λ r. ⌜ ((cells : List ℕ) → r ≡ writeNumber s (coreFrom c cells) q len room) ⌝ }
 {
     if room < AREA_SIZE {
         return TOO_SHORT;

@@ -25,7 +25,6 @@ ghost use Prim.Native.Nat.{ℕ, _+_, _^_, _≤_, _<_};
 ghost use lib.ListN.{length};
 ghost use lib.Seq.{paste};
 ghost use Rattle.tags.specs.Tags.{lowest};
-ghost use Rattle.address.specs.declared.Settings.{Settings};
 ghost use Rattle.address.specs.Windows.{axi, translated};
 ghost use Rattle.burst.specs.Bursts.{lengthOf};
 ghost use Rattle.burst.specs.Pieces.{pieceCount};
@@ -35,7 +34,7 @@ ghost use Rattle.parts.specs.Sizes.{tagCount, slotCount};
 ghost use Rattle.parts.specs.Pendings.{memoryPending};
 ghost use Rattle.machine.specs.State.{opened};
 ghost use Rattle.machine.specs.Memory.{claimed};
-ghost use Rattle.machine.specs.contracts.Tables.{bridgeOf};
+ghost use Rattle.machine.specs.contracts.Tables.{Fixed, bridgeOf};
 
 // The core after a turn, and where the next packet goes.
 pub struct Turn {
@@ -59,7 +58,7 @@ pub fn read_turn(
     at: usize,
 ) -> Turn
     requires { ⌜ (lowest tagCount (c .free) < tagCount) × ((n ≡ lengthOf q) × ((q .start .0 + n ≤ 2 ^ 64) × ((k < pieceCount limit (q .start .0) n) × (at + 16 ≤ length (now area))))) ⌝ }
-    ensures tables { λ r. ⌜ ((s : Settings) (x : List ℕ) → bridgeOf s (r .core) (now (missing .exit)) (now (tags .exit)) x ≡ opened (memoryPending slot (placeIn q (pieceOf limit q k)) (pieceOf limit q k .length) (translated (shift .base) (shift .target) (axi (pieceOf limit q k .first)) .0)) (bridgeOf s c (now (missing .entry)) (now (tags .entry)) x)) ⌝ }
+    ensures tables { λ r. ⌜ ((s : Fixed) (x : List ℕ) → bridgeOf s (r .core) (now (missing .exit)) (now (tags .exit)) x ≡ opened (memoryPending slot (placeIn q (pieceOf limit q k)) (pieceOf limit q k .length) (translated (shift .base) (shift .target) (axi (pieceOf limit q k .first)) .0)) (bridgeOf s c (now (missing .entry)) (now (tags .entry)) x)) ⌝ }
     ensures at { λ r. ⌜ r .at ≡ at + length (packet (memoryRequest false requester (lowest tagCount (c .free)) (translated (shift .base) (shift .target) (axi (pieceOf limit q k .first)) .0) (pieceOf limit q k .length)) []) ⌝ }
     ensures area { λ r. ⌜ now (area .exit) ≡ paste (now (area .entry)) at (packet (memoryRequest false requester (lowest tagCount (c .free)) (translated (shift .base) (shift .target) (axi (pieceOf limit q k .first)) .0) (pieceOf limit q k .length)) []) (length (packet (memoryRequest false requester (lowest tagCount (c .free)) (translated (shift .base) (shift .target) (axi (pieceOf limit q k .first)) .0) (pieceOf limit q k .length)) [])) ⌝ }
 {
@@ -82,7 +81,7 @@ pub fn read_turn(
 // A slot waits for a burst.
 pub fn claim(slots: &mut [u32; SLOT_CELLS], slot: u32, limit: u32, q: Burst)
     requires { ⌜ slot < slotCount ⌝ }
-    ensures { λ _. ⌜ ((s : Settings) (d : Core) (m t : List ℕ) → s .reads ≡ limit → bridgeOf s d m t (now (slots .exit)) ≡ claimed slot q (bridgeOf s d m t (now (slots .entry)))) ⌝ }
+    ensures { λ _. ⌜ ((s : Fixed) (d : Core) (m t : List ℕ) → s .settings .reads ≡ limit → bridgeOf s d m t (now (slots .exit)) ≡ claimed slot q (bridgeOf s d m t (now (slots .entry)))) ⌝ }
 {
     let first = q.start;
     let n = burst::length_of(q);

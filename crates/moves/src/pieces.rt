@@ -18,13 +18,12 @@ ghost use mathlib.Core.List.{List};
 ghost use Prim.Native.Nat.{ℕ, _+_, _*_, _≤_, _<_};
 ghost use lib.ListN.{length, getD};
 ghost use lib.Seq.{paste};
-ghost use Rattle.address.specs.declared.Settings.{Settings};
 ghost use Rattle.verdict.specs.declared.Cause.the-variants.{Poison};
 ghost use Rattle.parts.specs.Sizes.{tagCount, slotCount, slotSize, storeSize};
 ghost use Rattle.parts.specs.contracts.Columns.{placeColumn};
 ghost use Rattle.machine.specs.Stores.{usefulBytes};
 ghost use Rattle.machine.specs.Completions.{held, failed, closed, advanced};
-ghost use Rattle.machine.specs.contracts.Tables.{bridgeOf, heldOf};
+ghost use Rattle.machine.specs.contracts.Tables.{Fixed, bridgeOf, heldOf};
 
 // A piece closes, and its tag is free.
 fn close_in(
@@ -36,7 +35,7 @@ fn close_in(
     k: usize,
 ) -> Core
     requires { ⌜ (storeSize ≤ length (now store)) × ((tag < tagCount) × (k < slotCount)) ⌝ }
-    ensures { λ r. ⌜ ((s : Settings) (t : List ℕ) → heldOf s r (now (missing .exit)) t (now (slots .exit)) (now (store .exit)) ≡ closed tag k (heldOf s c (now (missing .entry)) t (now (slots .entry)) (now (store .entry)))) ⌝ }
+    ensures { λ r. ⌜ ((s : Fixed) (t : List ℕ) → heldOf s r (now (missing .exit)) t (now (slots .exit)) (now (store .exit)) ≡ closed tag k (heldOf s c (now (missing .entry)) t (now (slots .entry)) (now (store .entry)))) ⌝ }
 {
     shut_in(missing, index(tag));
     close_piece_in(slots, store, k);
@@ -55,7 +54,7 @@ fn advance_in(
     n: u32,
 ) -> Core
     requires { ⌜ (storeSize ≤ length (now store)) × ((tag < tagCount) × ((k < slotCount) × ((n ≤ getD (now missing) tag 0) × (getD (now tags) (placeColumn + tag) 0 + n ≤ slotSize)))) ⌝ }
-    ensures { λ r. ⌜ ((s : Settings) → heldOf s r (now (missing .exit)) (now (tags .exit)) (now (slots .exit)) (now (store .exit)) ≡ advanced tag k n (heldOf s c (now (missing .entry)) (now (tags .entry)) (now (slots .entry)) (now (store .entry)))) ⌝ }
+    ensures { λ r. ⌜ ((s : Fixed) → heldOf s r (now (missing .exit)) (now (tags .exit)) (now (slots .exit)) (now (store .exit)) ≡ advanced tag k n (heldOf s c (now (missing .entry)) (now (tags .entry)) (now (slots .entry)) (now (store .entry)))) ⌝ }
 {
     let t = index(tag);
     let before = missing[t];
@@ -80,7 +79,7 @@ pub fn good_in(
     n: u32,
 ) -> Core
     requires { ⌜ (storeSize ≤ length (now store)) × ((tag < tagCount) × ((k < slotCount) × ((n ≤ getD (now missing) tag 0) × ((getD (now tags) (placeColumn + tag) 0 + n ≤ slotSize) × (skip + n ≤ length (now payload)))))) ⌝ }
-    ensures { λ r. ⌜ ((s : Settings) → heldOf s r (now (missing .exit)) (now (tags .exit)) (now (slots .exit)) (now (store .exit)) ≡ advanced tag k n (heldOf s c (now (missing .entry)) (now (tags .entry)) (now (slots .entry)) (paste (now (store .entry)) (slotSize * k + getD (now (tags .entry)) (placeColumn + tag) 0) (usefulBytes skip n (now (payload .entry))) n))) ⌝ }
+    ensures { λ r. ⌜ ((s : Fixed) → heldOf s r (now (missing .exit)) (now (tags .exit)) (now (slots .exit)) (now (store .exit)) ≡ advanced tag k n (heldOf s c (now (missing .entry)) (now (tags .entry)) (now (slots .entry)) (paste (now (store .entry)) (slotSize * k + getD (now (tags .entry)) (placeColumn + tag) 0) (usefulBytes skip n (now (payload .entry))) n))) ⌝ }
 {
     let t = index(tag);
     let place = index(tags[PLACE + t]);
@@ -100,7 +99,7 @@ pub fn poisoned_in(
     n: u32,
 ) -> Core
     requires { ⌜ (storeSize ≤ length (now store)) × ((tag < tagCount) × ((k < slotCount) × ((n ≤ getD (now missing) tag 0) × (getD (now tags) (placeColumn + tag) 0 + n ≤ slotSize)))) ⌝ }
-    ensures { λ r. ⌜ ((s : Settings) → heldOf s r (now (missing .exit)) (now (tags .exit)) (now (slots .exit)) (now (store .exit)) ≡ advanced tag k n (held (failed k (getD (now (tags .entry)) (placeColumn + tag) 0) Poison (bridgeOf s c (now (missing .entry)) (now (tags .entry)) (now (slots .entry)))) (now (store .entry)))) ⌝ }
+    ensures { λ r. ⌜ ((s : Fixed) → heldOf s r (now (missing .exit)) (now (tags .exit)) (now (slots .exit)) (now (store .exit)) ≡ advanced tag k n (held (failed k (getD (now (tags .entry)) (placeColumn + tag) 0) Poison (bridgeOf s c (now (missing .entry)) (now (tags .entry)) (now (slots .entry)))) (now (store .entry)))) ⌝ }
 {
     let t = index(tag);
     let d = fail_in(c, slots, k, tags[PLACE + t], Cause::Poison);
@@ -119,7 +118,7 @@ pub fn failed_in(
     why: Cause,
 ) -> Core
     requires { ⌜ (storeSize ≤ length (now store)) × ((tag < tagCount) × (k < slotCount)) ⌝ }
-    ensures { λ r. ⌜ ((s : Settings) → heldOf s r (now (missing .exit)) (now (tags .entry)) (now (slots .exit)) (now (store .exit)) ≡ closed tag k (held (failed k (getD (now (tags .entry)) (placeColumn + tag) 0) why (bridgeOf s c (now (missing .entry)) (now (tags .entry)) (now (slots .entry)))) (now (store .entry)))) ⌝ }
+    ensures { λ r. ⌜ ((s : Fixed) → heldOf s r (now (missing .exit)) (now (tags .entry)) (now (slots .exit)) (now (store .exit)) ≡ closed tag k (held (failed k (getD (now (tags .entry)) (placeColumn + tag) 0) why (bridgeOf s c (now (missing .entry)) (now (tags .entry)) (now (slots .entry)))) (now (store .entry)))) ⌝ }
 {
     let t = index(tag);
     let d = fail_in(c, slots, k, tags[PLACE + t], why);

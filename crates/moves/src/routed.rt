@@ -4,6 +4,7 @@ use common::copy_at;
 use ecam::Route;
 use parts::CONFIG_SLOT;
 use parts::ConfigSlot;
+use messages::queue::DEPTH;
 use parts::Core;
 use parts::Done;
 use parts::OPEN;
@@ -19,26 +20,35 @@ ghost use mathlib.Core.List.{List};
 ghost use Prim.Native.Nat.{ℕ, _≤_, _<_};
 ghost use lib.ListN.{length};
 ghost use Rattle.tags.specs.Tags.{lowest};
-ghost use Rattle.address.specs.declared.Settings.{Settings};
 ghost use Rattle.packets.specs.Packets.{filled, packet};
 ghost use Rattle.refusals.specs.declared.Response.the-variants as response;
 ghost use Rattle.parts.specs.Sizes.{tagCount, configSlot};
 ghost use Rattle.parts.specs.Cores.{withConfig};
+ghost use Rattle.parts.specs.contracts.Struct.{coreFrom};
+ghost use Rattle.machine.specs.Bridge.{coreIn};
 ghost use Rattle.parts.specs.Answers.{accepted};
 ghost use Rattle.parts.specs.Access.{areaSize, accessOf};
 ghost use Rattle.machine.specs.Routed.{routedRequest, payloadOf};
 ghost use Rattle.machine.specs.contracts.Passing.{stayed};
 ghost use Rattle.machine.specs.State.{opened, openConfig};
 ghost use Rattle.machine.specs.Config.{wordPending};
-ghost use Rattle.machine.specs.contracts.Tables.{bridgeOf};
+ghost use Rattle.machine.specs.contracts.Tables.{Fixed, bridgeOf};
 
 // What an access that does not go out leaves in the core.
-pub fn stay_in(c: Core, x: Route, offset: u64, write: bool, strobes: u32, word: u32) -> Core
-    ensures { λ r. ⌜ r ≡ stayed c (accessOf offset write strobes word) x ⌝ }
+pub fn stay_in(
+    c: Core,
+    cells: &[u32; DEPTH],
+    x: Route,
+    offset: u64,
+    write: bool,
+    strobes: u32,
+    word: u32,
+) -> Core
+    ensures { λ r. ⌜ coreFrom r (now (cells .entry)) ≡ stayed (coreFrom c (now (cells .entry))) (accessOf offset write strobes word) x ⌝ }
 {
     match x {
         Route::OutOfRange => c,
-        Route::Local(w) => local_core(c, offset, write, strobes, word, w),
+        Route::Local(w) => local_core(c, cells, offset, write, strobes, word, w),
         Route::Type0 => c,
         Route::Type1 => c,
         Route::NotRouted => c,
@@ -78,7 +88,7 @@ pub fn routed_in(
     area: &mut [u8],
 ) -> Done
     requires { ⌜ (lowest tagCount (c .free) < tagCount) × (areaSize ≤ length (now area)) ⌝ }
-    ensures tables { λ r. ⌜ ((s : Settings) (y : List ℕ) → bridgeOf s (r .core) (now (missing .exit)) (now (tags .exit)) y ≡ opened (wordPending write) (bridgeOf s (withConfig (openConfig write) c) (now (missing .entry)) (now (tags .entry)) y)) ⌝ }
+    ensures tables { λ r. ⌜ ((s : Fixed) (y : List ℕ) → bridgeOf s (r .core) (now (missing .exit)) (now (tags .exit)) y ≡ opened (wordPending write) (coreIn (withConfig (openConfig write) (coreFrom c (s .cells))) (bridgeOf s c (now (missing .entry)) (now (tags .entry)) y))) ⌝ }
     ensures answer { λ r. ⌜ r .answer ≡ accepted response.Nothing configSlot (length (packet (routedRequest x (accessOf offset write strobes word) requester (lowest tagCount (c .free))) (payloadOf write word))) 0 ⌝ }
     ensures area { λ r. ⌜ now (area .exit) ≡ filled (packet (routedRequest x (accessOf offset write strobes word) requester (lowest tagCount (c .free))) (payloadOf write word)) (now (area .entry)) ⌝ }
 {

@@ -19,13 +19,12 @@ ghost use mathlib.Core.Path.{_≡_};
 ghost use mathlib.Core.List.{List};
 ghost use Prim.Native.Nat.{ℕ, _≤_, _<_};
 ghost use lib.ListN.{length};
-ghost use Rattle.address.specs.declared.Settings.{Settings};
 ghost use Rattle.parts.specs.declared.Core.{Core};
 ghost use Rattle.parts.specs.Sizes.{slotCount, slotSize, storeSize};
 ghost use Rattle.machine.specs.Stores.{zeroed};
 ghost use Rattle.machine.specs.Completions.{faulted, failed, finished, pieceClosed};
 ghost use Rattle.machine.specs.Ticks.{dropSlot};
-ghost use Rattle.machine.specs.contracts.Tables.{bridgeOf, heldOf};
+ghost use Rattle.machine.specs.contracts.Tables.{Fixed, bridgeOf, heldOf};
 
 // The first n bytes of slot k are zero.
 pub fn clear_slot(store: &mut [u8], k: usize, n: usize)
@@ -38,7 +37,7 @@ pub fn clear_slot(store: &mut [u8], k: usize, n: usize)
 // A piece of slot k failed at this place.
 pub fn fault_in(slots: &mut [u32; SLOT_CELLS], k: usize, place: u32, code: u32)
     requires { ⌜ k < slotCount ⌝ }
-    ensures { λ _. ⌜ ((s : Settings) (d : Core) (m t : List ℕ) → bridgeOf s d m t (now (slots .exit)) ≡ faulted k place code (bridgeOf s d m t (now (slots .entry)))) ⌝ }
+    ensures { λ _. ⌜ ((s : Fixed) (d : Core) (m t : List ℕ) → bridgeOf s d m t (now (slots .exit)) ≡ faulted k place code (bridgeOf s d m t (now (slots .entry)))) ⌝ }
 {
     let first = slots[FAULT + k];
     if place < first {
@@ -50,7 +49,7 @@ pub fn fault_in(slots: &mut [u32; SLOT_CELLS], k: usize, place: u32, code: u32)
 // A memory read's piece failed, and its decode bit is set.
 pub fn fail_in(c: Core, slots: &mut [u32; SLOT_CELLS], k: usize, place: u32, why: Cause) -> Core
     requires { ⌜ k < slotCount ⌝ }
-    ensures { λ r. ⌜ ((s : Settings) (m t : List ℕ) → bridgeOf s r m t (now (slots .exit)) ≡ failed k place why (bridgeOf s c m t (now (slots .entry)))) ⌝ }
+    ensures { λ r. ⌜ ((s : Fixed) (m t : List ℕ) → bridgeOf s r m t (now (slots .exit)) ≡ failed k place why (bridgeOf s c m t (now (slots .entry)))) ⌝ }
 {
     let code = cause_response(why);
     let bit = cause_bit(why);
@@ -61,7 +60,7 @@ pub fn fail_in(c: Core, slots: &mut [u32; SLOT_CELLS], k: usize, place: u32, why
 // The read in slot k is finished, and its bytes are zero unless it is OKAY.
 pub fn finish_in(slots: &mut [u32; SLOT_CELLS], store: &mut [u8], k: usize)
     requires { ⌜ (storeSize ≤ length (now store)) × (k < slotCount) ⌝ }
-    ensures { λ _. ⌜ ((s : Settings) (d : Core) (m t : List ℕ) → heldOf s d m t (now (slots .exit)) (now (store .exit)) ≡ finished k (heldOf s d m t (now (slots .entry)) (now (store .entry)))) ⌝ }
+    ensures { λ _. ⌜ ((s : Fixed) (d : Core) (m t : List ℕ) → heldOf s d m t (now (slots .exit)) (now (store .exit)) ≡ finished k (heldOf s d m t (now (slots .entry)) (now (store .entry)))) ⌝ }
 {
     let code = slots[CAUSE + k];
     let size = slots[SIZE + k];
@@ -76,7 +75,7 @@ pub fn finish_in(slots: &mut [u32; SLOT_CELLS], store: &mut [u8], k: usize)
 // A piece of slot k is closed.
 pub fn close_piece_in(slots: &mut [u32; SLOT_CELLS], store: &mut [u8], k: usize)
     requires { ⌜ (storeSize ≤ length (now store)) × (k < slotCount) ⌝ }
-    ensures { λ _. ⌜ ((s : Settings) (d : Core) (m t : List ℕ) → heldOf s d m t (now (slots .exit)) (now (store .exit)) ≡ pieceClosed k (heldOf s d m t (now (slots .entry)) (now (store .entry)))) ⌝ }
+    ensures { λ _. ⌜ ((s : Fixed) (d : Core) (m t : List ℕ) → heldOf s d m t (now (slots .exit)) (now (store .exit)) ≡ pieceClosed k (heldOf s d m t (now (slots .entry)) (now (store .entry)))) ⌝ }
 {
     let open = slots[PIECES + k];
     if open <= 1 {
@@ -89,7 +88,7 @@ pub fn close_piece_in(slots: &mut [u32; SLOT_CELLS], store: &mut [u8], k: usize)
 // A read that is open in slot k is finished as SLVERR with zero data.
 pub fn drop_slot_in(slots: &mut [u32; SLOT_CELLS], store: &mut [u8], k: usize)
     requires { ⌜ (storeSize ≤ length (now store)) × (k < slotCount) ⌝ }
-    ensures { λ _. ⌜ ((s : Settings) (d : Core) (m t : List ℕ) → heldOf s d m t (now (slots .exit)) (now (store .exit)) ≡ dropSlot (heldOf s d m t (now (slots .entry)) (now (store .entry))) k) ⌝ }
+    ensures { λ _. ⌜ ((s : Fixed) (d : Core) (m t : List ℕ) → heldOf s d m t (now (slots .exit)) (now (store .exit)) ≡ dropSlot (heldOf s d m t (now (slots .entry)) (now (store .entry))) k) ⌝ }
 {
     if slots[STATE + k] != OPEN {
         return;

@@ -54,7 +54,7 @@ notRouted = 10
 abbrev pub wrongDevice : ℕ
 wrongDevice = 11
 
--- 'malformed completion or header'
+-- 'malformed completion or header'; a message that breaks its layout (02, A1)
 abbrev pub malformed : ℕ
 malformed = 12
 
@@ -145,6 +145,10 @@ storeOrder = tooShort ∷ []
 -- 'headers 8, 12'
 abbrev pub headerOrder : List ℕ
 headerOrder = tooShort ∷ malformed ∷ []
+
+-- an error message: 'breaks its layout gets 12, any other that comes with the link down gets 4' (02, A1)
+abbrev pub messageOrder : List ℕ
+messageOrder = malformed ∷ linkDown ∷ []
 
 -- the first number of an order whose test holds, and 0 where none does
 abbrev pub refusedBy : List ℕ → List Bool → ℕ

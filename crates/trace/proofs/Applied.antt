@@ -14,7 +14,7 @@ use Rattle.address.specs.Settings.{powerAmong, eachFrom, windowRight, apart, wi
 use Rattle.address.specs.Windows.{holds, firstFrom, windowOf, translated}
 use Rattle.burst.specs.Bursts.{endFrom, burstRight, burstNumber, lengthOf}
 use Rattle.burst.specs.Pieces.{pieceCount, pieceFirst, pieceEnd, pieceAt, addresses}
-use Rattle.ecam.specs.declared.Registers.{Registers}
+use Rattle.ecam.specs.Registers.{Registers}
 use Rattle.ecam.specs.Registers.{some, decodeBits, isDecodeBit, byte, strobe, strobed, reached, cleared, numbered, writeBuses, localWrite, raised, fresh, withSecondary, withSubordinate}
 use Rattle.ecam.specs.Route.{route}
 use Rattle.ecam.specs.Request.{dataWord}

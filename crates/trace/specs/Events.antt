@@ -7,7 +7,7 @@ use mathlib.Core.Bool.{Bool, true, false, cond}
 use lib.ListN.{length}
 use lib.Dec.{eqb}
 use Rattle.address.specs.declared.Settings.{Settings}
-use Rattle.ecam.specs.declared.Registers.{Registers}
+use Rattle.ecam.specs.Registers.{Registers}
 use Rattle.burst.specs.declared.Burst.{Burst}
 use Rattle.parts.specs.declared.Answer.{Answer}
 use Rattle.machine.specs.Bridge.{Bridge}

@@ -6,7 +6,7 @@ use Rattle.tags.specs.Tags.{available}
 use Rattle.ecam.specs.declared.Route.{Route}
 use Rattle.ecam.specs.declared.Route.the-variants.{OutOfRange, Local, Type0, Type1, NotRouted, DeviceNotZero}
 use Rattle.ecam.specs.Route.{numberOf}
-use Rattle.parts.specs.declared.Core.{Core}
+use Rattle.parts.specs.Cores.{Core}
 use Rattle.machine.specs.State.{tagCount}
 use Rattle.machine.specs.Memory.{areaSize}
 use Rattle.machine.specs.Config.{Access, goesOut, configNumber, localCore}

@@ -1,20 +1,29 @@
--- What the code's tables mean: the columns of a bridge, from the settings, the core, the missing counts and the two flat
--- tables.
+-- What the code's tables mean: the columns of a bridge, from the settings, the core, the cells of the queued messages, the
+-- missing counts and the two flat tables.
 use Prim.Native.Nat.{ℕ}
 use mathlib.Core.List.{List}
 use Rattle.address.specs.declared.Settings.{Settings}
-use Rattle.parts.specs.declared.Core.{Core}
+use Rattle.parts.specs.declared.Core as code
+use Rattle.parts.specs.contracts.Struct.{coreFrom}
 use Rattle.parts.specs.Sizes.{tagCount, slotCount}
 use Rattle.parts.specs.contracts.Columns.{column, sentColumn, ownerColumn, placeColumn, nextColumn, kindColumn, stateColumn, sizeColumn, piecesColumn, faultColumn, causeColumn}
 use Rattle.machine.specs.Bridge.{Bridge}
 use Rattle.machine.specs.Completions.{Held, held}
 
+-- what no event but a message changes: the settings, and the cells
+pub record Fixed : Type 0 where
+  pub settings : Settings
+  pub cells : List ℕ
+
+abbrev pub fixed : Settings → List ℕ → Fixed
+fixed s cells = record { settings = s; cells = cells }
+
 -- m the missing counts, t the table by tag, x the table by slot
-abbrev pub bridgeOf : Settings → Core → List ℕ → List ℕ → List ℕ → Bridge
-bridgeOf s c m t x =
+abbrev pub bridgeOf : Fixed → code.Core → List ℕ → List ℕ → List ℕ → Bridge
+bridgeOf f c m t x =
     record {
-      settings = s;
-      core = c;
+      settings = f .settings;
+      core = coreFrom c (f .cells);
       missing = m;
       sent = column tagCount sentColumn t;
       owner = column tagCount ownerColumn t;
@@ -29,5 +38,5 @@ bridgeOf s c m t x =
     }
 
 -- the same with the store
-abbrev pub heldOf : Settings → Core → List ℕ → List ℕ → List ℕ → List ℕ → Held
-heldOf s c m t x store = held (bridgeOf s c m t x) store
+abbrev pub heldOf : Fixed → code.Core → List ℕ → List ℕ → List ℕ → List ℕ → Held
+heldOf f c m t x store = held (bridgeOf f c m t x) store

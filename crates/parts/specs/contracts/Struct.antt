@@ -2,8 +2,20 @@
 use Prim.Native.Nat.{ℕ}
 use mathlib.Core.List.{List}
 use Rattle.ecam.specs.contracts.Struct.{registersFrom}
+use Rattle.parts.specs.declared.ConfigSlot.{ConfigSlot}
 use Rattle.parts.specs.declared.Core as code
 use Rattle.parts.specs.Cores.{Core}
 
 abbrev pub coreFrom : code.Core → List ℕ → Core
 coreFrom c cells = record { registers = registersFrom (c .registers) cells; ticks = c .ticks; free = c .free; config = c .config }
+
+-- ---- the struct with one part put anew
+
+abbrev pub structFree : ℕ → code.Core → code.Core
+structFree x c = record { registers = c .registers; ticks = c .ticks; free = x; config = c .config }
+
+abbrev pub structTicks : ℕ → code.Core → code.Core
+structTicks x c = record { registers = c .registers; ticks = x; free = c .free; config = c .config }
+
+abbrev pub structConfig : ConfigSlot → code.Core → code.Core
+structConfig x c = record { registers = c .registers; ticks = c .ticks; free = c .free; config = x }

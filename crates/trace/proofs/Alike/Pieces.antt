@@ -10,7 +10,7 @@ use borrow.Author.Tests.{ltb-false}
 use native.Mathlib.Decide.{ℕ-discrete, decLt}
 use lib.ListN.{length}
 use lib.Seq.{paste}
-use Rattle.parts.specs.declared.Core.{Core}
+use Rattle.parts.specs.Cores.{Core}
 use Rattle.machine.specs.State.{Bridge, Tag, Slot, tagAt, slotAt, missingOf, ownerOf, placeOf, Open, slotCount, slotSize, okay, slotState, openPieces, tagCount}
 use Rattle.machine.specs.Completions.{Held, held, usefulBytes, configAnswer, configCompleted}
 use Rattle.bridge_laws.specs.Rows.{faultedSlot, closedSlot, closedStore, countedTag, shutTag, notedSlot}

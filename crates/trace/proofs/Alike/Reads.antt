@@ -19,7 +19,7 @@ use Rattle.burst.specs.Bursts.{lengthOf}
 use Rattle.burst.specs.Pieces.{pieceCount, pieceFirst, pieceEnd, pieceAt}
 use Rattle.burst.proofs.Cut.{div-mono}
 use Rattle.burst.proofs.Words.{limit-words}
-use Rattle.parts.specs.declared.Core.{Core}
+use Rattle.parts.specs.Cores.{Core}
 use Rattle.parts.specs.declared.Pending.{Pending}
 use Rattle.machine.specs.State.{Bridge, tagAt, slotAt, tagCount, slotCount, withConfig, openConfig, opened, freeSlot, freeSlotFrom}
 use Rattle.machine.specs.Memory.{piecesOf, pieceOf, piecePending, claimed, readTo, readRefusal, readBridge}

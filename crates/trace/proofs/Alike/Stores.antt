@@ -11,7 +11,7 @@ use lib.ListN.{length, getD, take, drop, replicate, length-replicate}
 use lib.Seq.{paste, length-paste, length-paste-head, length-take-le, getD-take, getD-drop}
 use lib.Dec.{eqb, leb}
 use borrow.Author.Tests.{eqb-true, leb-true}
-use Rattle.parts.specs.declared.Core.{Core}
+use Rattle.parts.specs.Cores.{Core}
 use Rattle.machine.specs.State.{Tag, Slot, tagAt, slotAt, missingOf, ownerOf, Open, coreIn, tagCount, slotCount, slotSize, okay}
 use Rattle.machine.specs.Completions.{storeSize, Held, held, zeroed}
 use Rattle.bridge_laws.specs.Rows.{finishedSlot, closedSlot, closedStore, fewerSlot}

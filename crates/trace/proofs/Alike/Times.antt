@@ -10,7 +10,7 @@ use lib.Dec.{eqb, leb}
 use borrow.Author.Tests.{le-ltb}
 use Rattle.common.proofs.Tests.{and-left}
 use Rattle.parts.specs.declared.ConfigSlot.{ConfigSlot}
-use Rattle.parts.specs.declared.Core.{Core}
+use Rattle.parts.specs.Cores.{Core}
 use Rattle.verdict.specs.declared.Cause.the-variants.{Timeout}
 use Rattle.machine.specs.State.{Bridge, Slot, tagAt, slotAt, missingOf, ownerOf, placeOf, sentOf, Open, isOpen, slotCount, slverr, withTicks, withConfig, coreIn, raisedCore}
 use Rattle.machine.specs.Verdict.{causeResponse, causeBit}

@@ -8,10 +8,10 @@ use native.Mathlib.Omega.{arith}
 use native.Mathlib.Decide.{ℕ-discrete}
 use Rattle.bits.specs.Bits.{setBit, clearBit}
 use Rattle.tags.specs.Tags.{lowest}
-use Rattle.ecam.specs.declared.Registers.{Registers}
+use Rattle.ecam.specs.Registers.{Registers}
 use Rattle.ecam.specs.Registers.{localRead}
 use Rattle.parts.specs.declared.ConfigSlot.{ConfigSlot}
-use Rattle.parts.specs.declared.Core.{Core}
+use Rattle.parts.specs.Cores.{Core}
 use Rattle.parts.specs.declared.Pending.{Pending}
 use Rattle.machine.specs.State.{Bridge, Tag, Slot, tagAt, slotAt, Open, tagCount, slotCount, withFree, withConfig, doneConfig, okay, raisedCore, refusalChange}
 use Rattle.machine.specs.Config.{Access, localCore}

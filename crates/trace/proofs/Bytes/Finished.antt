@@ -10,7 +10,7 @@ use lib.ListN.{length, getD}
 use lib.Seq.{ext-getD}
 use lib.Dec.{ltb}
 use borrow.Author.Tests.{eq-eqb, ne-eqb, lt-ltb, le-ltb, ltb-true, ltb-false}
-use Rattle.parts.specs.declared.Core.{Core}
+use Rattle.parts.specs.Cores.{Core}
 use Rattle.parts.specs.declared.ConfigSlot.{ConfigSlot}
 use Rattle.machine.specs.State.{Bridge, slotAt, missingOf, ownerOf, placeOf, sizeOf, responseOf, accepted}
 use Rattle.machine.specs.Config.{routeOf}

@@ -18,7 +18,7 @@ use Rattle.verdict.specs.declared.Cause.{Cause}
 use Rattle.verdict.specs.declared.Cause.the-variants.{Poison, Timeout}
 use Rattle.verdict.specs.declared.Verdict.{Verdict}
 use Rattle.verdict.specs.declared.Verdict.the-variants.{Good}
-use Rattle.parts.specs.declared.Core.{Core}
+use Rattle.parts.specs.Cores.{Core}
 use Rattle.machine.specs.State.{Bridge, Tag, Slot, tagAt, slotAt, tagCount, coreIn, missingOf, ownerOf, placeOf, nextAddress, Open, freeSlot}
 use Rattle.machine.specs.Memory.{piecesOf, readRefusal, readBridge}
 use Rattle.machine.specs.Config.{Access, routeOf, goesOut, configRefusal, routedBridge}

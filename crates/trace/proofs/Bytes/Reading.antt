@@ -9,7 +9,7 @@ use native.Mathlib.Decide.{ℕ-discrete}
 use lib.ListN.{length, getD, drop}
 use borrow.Author.Tests.{eq-eqb, ne-eqb}
 use Rattle.common.proofs.Tests.{and-left}
-use Rattle.parts.specs.declared.Core.{Core}
+use Rattle.parts.specs.Cores.{Core}
 use Rattle.machine.specs.State.{slotAt, withTicks, coreIn, missingOf, ownerOf, placeOf, isOpen}
 use Rattle.machine.specs.Completions.{storeSize, Held, held}
 use Rattle.machine.specs.Ticks.{nextTick, isOld, timedOut, linked}

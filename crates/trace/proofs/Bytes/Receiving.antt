@@ -17,7 +17,7 @@ use Rattle.verdict.specs.declared.Cause.{Cause}
 use Rattle.verdict.specs.declared.Cause.the-variants.{Poison, Timeout}
 use Rattle.verdict.specs.declared.Verdict.{Verdict}
 use Rattle.verdict.specs.declared.Verdict.the-variants.{Good}
-use Rattle.parts.specs.declared.Core.{Core}
+use Rattle.parts.specs.Cores.{Core}
 use Rattle.machine.specs.State.{Tag, Slot, tagAt, slotAt, missingOf, ownerOf, placeOf, nextAddress}
 use Rattle.machine.specs.Verdict.{useful, memoryVerdict, causeResponse}
 use Rattle.machine.specs.Completions.{Held, usefulBytes, completionOf}

@@ -13,7 +13,7 @@ use Rattle.burst.specs.declared.Burst.{Burst}
 use Rattle.ecam.specs.declared.Route.{Route}
 use Rattle.ecam.specs.declared.Route.the-variants.{OutOfRange, Local, Type0, Type1, NotRouted, DeviceNotZero}
 use Rattle.ecam.specs.Route.{numberOf}
-use Rattle.parts.specs.declared.Core.{Core}
+use Rattle.parts.specs.Cores.{Core}
 use Rattle.parts.specs.declared.ConfigSlot.{ConfigSlot}
 use Rattle.machine.specs.State.{Bridge, sentOf, tagCount, freeSlot}
 use Rattle.machine.specs.Completions.{Held, held}

@@ -10,7 +10,7 @@ use lib.Dec.{ltb, leb, eqb}
 use lib.ListN.{drop}
 use borrow.Author.Tests.{eqb-true}
 use Rattle.common.proofs.Tests.{row}
-use Rattle.parts.specs.declared.Core.{Core}
+use Rattle.parts.specs.Cores.{Core}
 use Rattle.parts.specs.declared.ConfigSlot.{ConfigSlot}
 use Rattle.verdict.specs.declared.Verdict.{Verdict}
 use Rattle.machine.specs.State.{Bridge, Tag, Slot, tagAt, slotAt, slotState, missingOf, sentOf, ownerOf, placeOf, isOpen, tagCount, Open, slverr, withTicks, coreIn, withRegisters, withConfig}

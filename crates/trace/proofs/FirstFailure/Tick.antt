@@ -9,7 +9,7 @@ use native.Mathlib.Omega.{arith}
 use lib.Dec.{eqb}
 use borrow.Author.Tests.{ne-eqb}
 use Rattle.common.proofs.Tests.{and-left}
-use Rattle.parts.specs.declared.Core.{Core}
+use Rattle.parts.specs.Cores.{Core}
 use Rattle.verdict.specs.declared.Cause.the-variants.{Timeout}
 use Rattle.machine.specs.State.{Bridge, Tag, Slot, tagAt, missingOf, ownerOf, placeOf, isOpen, tagCount}
 use Rattle.machine.specs.Completions.{Held}

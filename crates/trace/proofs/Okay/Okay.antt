@@ -10,7 +10,7 @@ use lib.Dec.{eqb}
 use borrow.Author.Tests.{eq-eqb, lt-ltb}
 use Rattle.address.specs.declared.Settings.{Settings}
 use Rattle.burst.specs.declared.Burst.{Burst}
-use Rattle.parts.specs.declared.Core.{Core}
+use Rattle.parts.specs.Cores.{Core}
 use Rattle.parts.specs.declared.ConfigSlot.{ConfigSlot}
 use Rattle.machine.specs.State.{Bridge, failureOf, freeSlot, configWrite, responseOf, accepted}
 use Rattle.machine.specs.Memory.{piecesOf, pieceOf, readRefusal, readBridge}

@@ -9,7 +9,7 @@ use lib.Dec.{eqb}
 use Rattle.bits.specs.Bits.{isSet}
 use Rattle.address.specs.Settings.{settingsNumber}
 use Rattle.parts.specs.declared.ConfigSlot.{ConfigSlot}
-use Rattle.parts.specs.declared.Core.{Core}
+use Rattle.parts.specs.Cores.{Core}
 use Rattle.machine.specs.State.{Bridge, Tag, Slot, tagAt, slotAt, tagCount, missingOf, sentOf, ownerOf, placeOf, Open, withConfig, registersOf}
 use Rattle.machine.specs.Take.{stateOf}
 use Rattle.bridge_laws.specs.Effects.{Acts, same}

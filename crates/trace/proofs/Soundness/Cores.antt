@@ -6,9 +6,9 @@ use mathlib.Core.Bool.{false}
 use native.Mathlib.Omega.{arith}
 use native.Mathlib.Decide.{decLt}
 use lib.Dec.{eqb}
-use Rattle.ecam.specs.declared.Registers.{Registers}
+use Rattle.ecam.specs.Registers.{Registers}
 use Rattle.parts.specs.declared.ConfigSlot.{ConfigSlot}
-use Rattle.parts.specs.declared.Core.{Core}
+use Rattle.parts.specs.Cores.{Core}
 use Rattle.machine.specs.State.{Bridge, Slot, slotAt, tagCount, sentOf, Open, withRegisters, withConfig, freeConfig, coreIn}
 use Rattle.machine.specs.Config.{Access, routeOf, configRefusal, localCore, localBridge}
 use Rattle.machine.specs.Ticks.{ageOf}

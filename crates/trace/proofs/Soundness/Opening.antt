@@ -23,7 +23,7 @@ use Rattle.burst.specs.Pieces.{pieceCount}
 use Rattle.burst.proofs.Pieces.{accepted-covers, blocks-of}
 use Rattle.burst.proofs.Tiling.{piece-not-empty, piece-within}
 use Rattle.parts.specs.declared.ConfigSlot.{ConfigSlot}
-use Rattle.parts.specs.declared.Core.{Core}
+use Rattle.parts.specs.Cores.{Core}
 use Rattle.parts.specs.declared.Pending.{Pending}
 use Rattle.parts.proofs.Slots.{inside}
 use Rattle.machine.specs.State.{Bridge, slotAt, tagCount, slotCount, slotSize, missingOf, Open, withFree, withConfig, openConfig, opened, freeSlot, freeSlotFrom, registersOf}

@@ -11,7 +11,7 @@ use borrow.Author.Tests.{leb-true, leb-false}
 use Rattle.bits.specs.Bits.{isSet}
 use Rattle.bits.proofs.Bits.{set-sets}
 use Rattle.parts.specs.declared.ConfigSlot.{ConfigSlot}
-use Rattle.parts.specs.declared.Core.{Core}
+use Rattle.parts.specs.Cores.{Core}
 use Rattle.verdict.specs.declared.Cause.{Cause}
 use Rattle.verdict.specs.declared.Cause.the-variants.{UnsupportedRequest, RequestRetry, CompleterAbort, Poison, Timeout}
 use Rattle.verdict.specs.declared.Verdict.{Verdict}

@@ -9,7 +9,7 @@ use lib.Dec.{eqb}
 use borrow.Author.Tests.{eqb-true, eqb-false, le-ltb}
 use Rattle.tlp.specs.declared.completion.Completion.{Completion}
 use Rattle.tlp.specs.declared.completion.CompletionRead.the-variants.{Header}
-use Rattle.ecam.specs.declared.Registers.{Registers}
+use Rattle.ecam.specs.Registers.{Registers}
 use Rattle.ecam.specs.declared.Route.{Route}
 use Rattle.ecam.specs.declared.Route.the-variants.{OutOfRange, Local, Type0, Type1, NotRouted, DeviceNotZero}
 use Rattle.burst.specs.declared.Burst.{Burst}
@@ -23,7 +23,7 @@ use Rattle.machine.specs.Verdict.{memoryVerdict, configVerdict}
 use Rattle.machine.specs.Completions.{storeSize, Held, held, memoryCompleted, configCompleted, nextAddress, verdictOf, completionOf, isUnexpected, completeRefusal, completed}
 use Rattle.machine.specs.Ticks.{nextTick, expireTo, ticked, linkIn, linkLost, dropSlots, linked}
 use Rattle.machine.specs.Take.{takeRefusal, slotFreed, releaseStep}
-use Rattle.parts.specs.declared.Core.{Core}
+use Rattle.parts.specs.Cores.{Core}
 use Rattle.parts.specs.declared.Answer.{Answer}
 use Rattle.ecam.specs.Route.{numberOf}
 use native.Mathlib.Omega.{arith}

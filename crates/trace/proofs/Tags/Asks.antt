@@ -14,7 +14,7 @@ use Rattle.bits.proofs.Bits.{clear-clears}
 use Rattle.tags.specs.Tags.{lowest, available}
 use Rattle.tags.proofs.Tags.{lowest-is}
 use Rattle.burst.specs.Pieces.{addresses}
-use Rattle.parts.specs.declared.Core.{Core}
+use Rattle.parts.specs.Cores.{Core}
 use Rattle.parts.specs.declared.Pending.{Pending}
 use Rattle.machine.specs.State.{Bridge, Tag, Slot, tagAt, tagCount, slotCount}
 use Rattle.machine.specs.Completions.{Held}

@@ -1,3 +1,4 @@
+use Rattle.parts.specs.Cores as cores
 use mathlib.Core.Path.{_≡_, refl, sym, ap, subst, _∙_}
 use mathlib.Core.List.{List}
 use mathlib.Core.Bool.{Bool, true, false, cond, not, _&&_}
@@ -8,7 +9,6 @@ use lib.ListN.{getD, set, length}
 use lib.Dec.{eqb}
 use denote.Ref.{now}
 use borrow.Author.Tests.{lt-ltb, le-ltb, le-leb, lt-leb, eq-eqb, ne-eqb, not-true, not-false}
-use Rattle.address.specs.declared.Settings.{Settings}
 use Rattle.parts.specs.declared.Core.{Core}
 use Rattle.parts.specs.Sizes.{tagCount, slotCount}
 use Rattle.parts.proofs.Columns.{get}
@@ -43,7 +43,7 @@ unfolding completed completeRefusal
 returns c = let a = c .before .before .before .before .args in (
   λ z e.
       rw (lt-ltb _ _ (c .before .if1 .taken))
-      (ap (λ (x : Core). heldOf z x (now (a .missing)) (now (a .tags)) (now (a .slots)) (now (a .store))) (c .refuse .ensures .0)),
+      (ap (λ (x : cores.Core). held (coreIn x (bridgeOf z (a .c) (now (a .missing)) (now (a .tags)) (now (a .slots)))) (now (a .store))) (c .refuse .ensures .0 (z .cells))),
   λ z e. rw (lt-ltb _ _ (c .before .if1 .taken)) (c .refuse .ensures .1),
 )
 
@@ -89,7 +89,7 @@ unfolding completed completeRefusal
 returns-2 c = let a = c .before .before .before .before .before .before .before .args in (
   λ z e.
       rw (le-ltb _ _ (c .before .before .before .before .if1 .left), ← c .before .before .before .completion-of .ensures, c .before .enum-told .given .1)
-      (ap (λ (x : Core). heldOf z x (now (a .missing)) (now (a .tags)) (now (a .slots)) (now (a .store))) (c .refuse2 .ensures .0)),
+      (ap (λ (x : cores.Core). held (coreIn x (bridgeOf z (a .c) (now (a .missing)) (now (a .tags)) (now (a .slots)))) (now (a .store))) (c .refuse2 .ensures .0 (z .cells))),
   λ z e. rw (le-ltb _ _ (c .before .before .before .before .if1 .left), ← c .before .before .before .completion-of .ensures, c .before .enum-told .given .1) (c .refuse2 .ensures .1),
 )
 

@@ -8,7 +8,6 @@ use lib.ListN.{getD, set, length}
 use lib.Dec.{eqb}
 use denote.Ref.{now}
 use borrow.Author.Tests.{lt-ltb, le-ltb, le-leb, lt-leb, eq-eqb, ne-eqb, not-true, not-false}
-use Rattle.address.specs.declared.Settings.{Settings}
 use Rattle.parts.specs.declared.Core.{Core}
 use Rattle.parts.specs.Sizes.{tagCount, slotCount}
 use Rattle.parts.proofs.Columns.{get}
@@ -17,7 +16,7 @@ use Rattle.machine.specs.State.{shut, freed}
 use Rattle.machine.specs.Completions.{configCompleted}
 use Rattle.machine.specs.contracts.Tables.{bridgeOf}
 use Rattle.bits.specs.Bits.{setBit}
-use Rattle.parts.specs.Cores.{withFree, withConfig}
+use Rattle.parts.specs.contracts.Struct.{structFree, structConfig}
 use borrow.Author.Needs.{needs}
 use Rattle.events.proofs.complete.finish_config_in.Statement.{statement}
 use Rattle.events.proofs.complete.finish_config_in.Tie as tie
@@ -45,7 +44,7 @@ unfolding configCompleted shut freed
 returns c = λ s t x.
     let a = c .before .before .before .before .before .before .before .args in
     rw (c .free-in .ensures, ← c .before .before .before .before .config-answer .ensures)
-    (ap (λ (m : List ℕ). bridgeOf s (withFree (setBit tagCount (a .c .free) (a .tag)) (withConfig (c .before .before .before .before .config-answer .result) (a .c))) m t x)
+    (ap (λ (m : List ℕ). bridgeOf s (structFree (setBit tagCount (a .c .free) (a .tag)) (structConfig (c .before .before .before .before .config-answer .result) (a .c))) m t x)
     (rw (c .before .before .index .ensures .0) at (c .before .shut-in .ensures)))
 
 pub finish-config-in-spec : {M : Type 1} → statement M

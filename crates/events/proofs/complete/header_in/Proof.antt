@@ -1,3 +1,5 @@
+use Rattle.machine.specs.Bridge.{coreIn}
+use Rattle.parts.specs.Cores as cores
 use mathlib.Core.Path.{_≡_, refl, sym, ap, subst, _∙_}
 use mathlib.Core.List.{List}
 use mathlib.Core.Bool.{Bool, true, false, cond, not, _&&_}
@@ -8,14 +10,13 @@ use lib.ListN.{getD, set, length}
 use lib.Dec.{eqb}
 use denote.Ref.{now}
 use borrow.Author.Tests.{lt-ltb, le-ltb, le-leb, lt-leb, eq-eqb, ne-eqb, not-true, not-false}
-use Rattle.address.specs.declared.Settings.{Settings}
 use Rattle.parts.specs.declared.Core.{Core}
 use Rattle.parts.specs.Sizes.{tagCount, slotCount}
 use Rattle.parts.proofs.Columns.{get}
 use Rattle.machine.specs.State.{Bridge}
 use Rattle.parts.specs.contracts.Columns.{ownerColumn}
 use Rattle.machine.specs.Completions.{held, expected}
-use Rattle.machine.specs.contracts.Tables.{heldOf}
+use Rattle.machine.specs.contracts.Tables.{bridgeOf}
 use borrow.Author.Needs.{needs}
 use Rattle.events.proofs.complete.header_in.Statement.{statement}
 use Rattle.events.proofs.complete.header_in.Tie as tie
@@ -42,7 +43,7 @@ returns : tie.Need-returns
 returns c = let a = c .before .before .before .before .before .before .before .before .args in (
   λ s e.
       rw (← c .before .before .before .verdict-in .ensures .0 s (a .c) (now (a .slots)) e, ← c .before .before .is-unexpected .ensures, c .before .if1 .taken)
-      (ap (λ (x : Core). heldOf s x (now (a .missing)) (now (a .tags)) (now (a .slots)) (now (a .store))) (c .refuse .ensures .0)),
+      (ap (λ (x : cores.Core). held (coreIn x (bridgeOf s (a .c) (now (a .missing)) (now (a .tags)) (now (a .slots)))) (now (a .store))) (c .refuse .ensures .0 (s .cells))),
   λ s e.
       rw (← c .before .before .before .verdict-in .ensures .0 s (a .c) (now (a .slots)) e, ← c .before .before .is-unexpected .ensures, c .before .if1 .taken) (c .refuse .ensures .1),
 )

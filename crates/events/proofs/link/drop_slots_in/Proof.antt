@@ -9,7 +9,7 @@ use lib.Dec.{eqb}
 use denote.Ref.{now}
 use borrow.Author.Needs.{needs}
 use borrow.Author.Tests.{lt-ltb, le-ltb, le-leb, lt-leb, eq-eqb, ne-eqb, not-true, not-false}
-use Rattle.address.specs.declared.Settings.{Settings}
+use Rattle.machine.specs.contracts.Tables.{Fixed}
 use Rattle.parts.specs.declared.Core.{Core}
 use Rattle.parts.specs.Sizes.{tagCount, slotCount}
 use Rattle.parts.proofs.Columns.{get}
@@ -26,7 +26,7 @@ abbrev Inv-loop : tie.InvT-loop
 Inv-loop slots₀ store₀ k₀ slots store k =
     (k ≤ 8)
     × ((length store ≡ length store₀)
-    × ((s : Settings) (d : Core) (m t : List ℕ) → heldOf s d m t slots store ≡ dropSlots (heldOf s d m t slots₀ store₀) k))
+    × ((s : Fixed) (d : Core) (m t : List ℕ) → heldOf s d m t slots store ≡ dropSlots (heldOf s d m t slots₀ store₀) k))
 
 abbrev μ-loop : tie.MeasureT-loop
 μ-loop slots₀ store₀ k₀ slots store k = 8 - k

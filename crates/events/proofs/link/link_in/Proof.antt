@@ -1,3 +1,4 @@
+use lib.ListN.{replicate}
 use mathlib.Core.Path.{_≡_, refl, sym, ap, subst, _∙_}
 use mathlib.Core.List.{List}
 use mathlib.Core.Bool.{Bool, true, false, cond, not, _&&_}
@@ -8,7 +9,6 @@ use lib.ListN.{getD, set, length}
 use lib.Dec.{eqb}
 use denote.Ref.{now}
 use borrow.Author.Tests.{lt-ltb, le-ltb, le-leb, lt-leb, eq-eqb, ne-eqb, not-true, not-false}
-use Rattle.address.specs.declared.Settings.{Settings}
 use Rattle.parts.specs.declared.Core.{Core}
 use Rattle.parts.specs.Sizes.{tagCount, slotCount}
 use Rattle.parts.proofs.Columns.{get}
@@ -47,7 +47,7 @@ returns-2 : tie.Need-returns-2
 unfolding linked linkLost
 returns-2 c = let a = c .before .before .before .before .before .before .before .before .before .before .before .before .args in (
   rw (le-ltb _ _ (c .before .before .before .before .before .before .before .before .before .before .if1 .left)) (c .plain-answer2 .ensures),
-  λ s t. rw (le-ltb _ _ (c .before .before .before .before .before .before .before .before .before .before .if1 .left), c .before .before .before .before .before .before .before .before .if2 .taken, c .before .lost-core .ensures) (c .before .before .before .before .drop-slots-in .ensures s _ _ t),
+  λ s t. rw (le-ltb _ _ (c .before .before .before .before .before .before .before .before .before .before .if1 .left), c .before .before .before .before .before .before .before .before .if2 .taken, c .before .lost-core .ensures (s .cells)) (rw (c .before .lost-core .ensures (s .cells)) at (c .before .before .before .before .drop-slots-in .ensures s (c .before .lost-core .result) (replicate tagCount 0) t)),
 )
 
 with-link-requires : tie.Need-with-link-requires

@@ -1,5 +1,5 @@
 use mathlib.Core.Path.{_≡_, refl, sym, ap, subst, _∙_}
-use mathlib.Core.List.{List}
+use mathlib.Core.List.{List, []}
 use mathlib.Core.Bool.{Bool, true, false, cond, not, _&&_}
 use Prim.Native.Nat.{ℕ, _+_, _-_, _*_, _%_, _≤_, _<_, zero-le}
 use native.Mathlib.Omega.{arith}
@@ -8,14 +8,13 @@ use lib.ListN.{getD, set, length}
 use lib.Dec.{eqb}
 use denote.Ref.{now}
 use borrow.Author.Tests.{lt-ltb, le-ltb, le-leb, lt-leb, eq-eqb, ne-eqb, not-true, not-false}
-use Rattle.address.specs.declared.Settings.{Settings}
 use Rattle.parts.specs.declared.Core.{Core}
 use Rattle.parts.specs.Sizes.{tagCount, slotCount}
 use Rattle.parts.proofs.Columns.{get}
 use Rattle.machine.specs.State.{Bridge}
 use Rattle.machine.specs.State.{freeSlot, refused}
 use Rattle.machine.specs.Memory.{readRefusal}
-use Rattle.machine.specs.contracts.Tables.{bridgeOf}
+use Rattle.machine.specs.contracts.Tables.{fixed, bridgeOf}
 use Rattle.machine.proofs.Refusals.{read-ok, read-number, read-refused, read-done}
 use borrow.Author.Needs.{needs}
 use Rattle.events.proofs.memory.read_in.Statement.{statement}
@@ -40,27 +39,34 @@ refuse-requires c κs = search needs
 
 returns : tie.Need-returns
 unfolding refused
-returns c = let a = c .before .before .before .before .before .before .args in
-    let b = bridgeOf (a .s) (a .c) (now (a .missing)) (now (a .tags)) (now (a .slots)) in
-    let es : c .before .before .before .free-slot .result ≡ freeSlot b = c .before .before .before .free-slot .ensures in
-    let er = read-number b (a .q) (length (now (a .area))) es (c .before .before .read-refusal .ensures) in
-    let r = read-refused b (a .q) (now (a .area)) (c .before .before .read-refusal .result) er (c .before .if1 .taken) in
-    (rw (c .refuse .ensures .0, c .refuse .ensures .1) (r .0), r .1)
+returns c = let a = c .before .before .before .before .before .before .args in (
+  λ cells.
+      let b = bridgeOf (fixed (a .s) cells) (a .c) (now (a .missing)) (now (a .tags)) (now (a .slots)) in
+      rw (c .refuse .ensures .0 cells, c .refuse .ensures .1)
+      (read-refused b (a .q) (now (a .area)) (c .before .before .read-refusal .result)
+      (read-number b (a .q) (length (now (a .area))) (c .before .before .before .free-slot .ensures) (c .before .before .read-refusal .ensures cells))
+      (c .before .if1 .taken) .0),
+  λ cells.
+      let b = bridgeOf (fixed (a .s) cells) (a .c) (now (a .missing)) (now (a .tags)) (now (a .slots)) in
+      (read-refused b (a .q) (now (a .area)) (c .before .before .read-refusal .result)
+      (read-number b (a .q) (length (now (a .area))) (c .before .before .before .free-slot .ensures) (c .before .before .read-refusal .ensures cells))
+      (c .before .if1 .taken) .1),
+)
 
 claim-requires : tie.Need-claim-requires
 claim-requires c κs = let a = c .before .before .before .before .before .before .args in
-    let b = bridgeOf (a .s) (a .c) (now (a .missing)) (now (a .tags)) (now (a .slots)) in
+    let b = bridgeOf (fixed (a .s) []) (a .c) (now (a .missing)) (now (a .tags)) (now (a .slots)) in
     let es : c .before .before .before .free-slot .result ≡ freeSlot b = c .before .before .before .free-slot .ensures in
-    let er = read-number b (a .q) (length (now (a .area))) es (c .before .before .read-refusal .ensures) in
+    let er = read-number b (a .q) (length (now (a .area))) es (c .before .before .read-refusal .ensures []) in
     let z : readRefusal b (a .q) (length (now (a .area))) ≡ 0 = sym er ∙ c .before .if1 .left in
     let ok = read-ok b (a .q) (length (now (a .area))) z in
     omega (arith, es, ok .slot)
 
 read-pieces-requires : tie.Need-read-pieces-requires
 read-pieces-requires c κs = let a = c .before .before .before .before .before .before .before .before .before .before .args in
-    let b = bridgeOf (a .s) (a .c) (now (a .missing)) (now (a .tags)) (now (a .slots)) in
+    let b = bridgeOf (fixed (a .s) []) (a .c) (now (a .missing)) (now (a .tags)) (now (a .slots)) in
     let es : c .before .before .before .before .before .before .before .free-slot .result ≡ freeSlot b = c .before .before .before .before .before .before .before .free-slot .ensures in
-    let er = read-number b (a .q) (length (now (a .area))) es (c .before .before .before .before .before .before .read-refusal .ensures) in
+    let er = read-number b (a .q) (length (now (a .area))) es (c .before .before .before .before .before .before .read-refusal .ensures []) in
     let z : readRefusal b (a .q) (length (now (a .area))) ≡ 0 = sym er ∙ c .before .before .before .before .before .if1 .left in
     let ok = read-ok b (a .q) (length (now (a .area))) z in
     (ok .tags, ok .area)
@@ -73,16 +79,30 @@ same-length c = search needs
 
 returns-2 : tie.Need-returns-2
 returns-2 c = let a = c .before .before .before .before .before .before .before .before .before .before .before .before .before .before .before .args in
-    let b = bridgeOf (a .s) (a .c) (now (a .missing)) (now (a .tags)) (now (a .slots)) in
-    let es : c .before .before .before .before .before .before .before .before .before .before .before .before .free-slot .result ≡ freeSlot b = c .before .before .before .before .before .before .before .before .before .before .before .before .free-slot .ensures in
-    let er = read-number b (a .q) (length (now (a .area))) es (c .before .before .before .before .before .before .before .before .before .before .before .read-refusal .ensures) in
-    let z : readRefusal b (a .q) (length (now (a .area))) ≡ 0 = sym er ∙ c .before .before .before .before .before .before .before .before .before .before .if1 .left in
-    let ok = read-ok b (a .q) (length (now (a .area))) z in
     let x = c .before .before .before .before .before .before .before .before .claim .last .0 in
-    let t = c .before .before .before .before .read-pieces in
-    rw (c .accepted-as .ensures)
-    (read-done b (bridgeOf (a .s) (a .c) (now (a .missing)) (now (a .tags)) x) (bridgeOf (a .s) (t .result .core) (t .last .1 .1 .0) (t .last .1 .1 .1 .0) x) (a .q) (c .before .before .before .before .before .before .before .before .before .before .before .before .free-slot .result) (t .result .at) (now (a .area)) (t .last .1 .1 .1 .1 .1 .1 .0) es z
-    (c .before .before .before .before .before .before .before .before .claim .ensures (a .s) (a .c) (now (a .missing)) (now (a .tags)) refl) (t .ensures .0 x) (t .ensures .1 .0 x) (t .ensures .1 .1 x))
+    let t = c .before .before .before .before .read-pieces in (
+  λ cells.
+      let b = bridgeOf (fixed (a .s) cells) (a .c) (now (a .missing)) (now (a .tags)) (now (a .slots)) in
+      let es : c .before .before .before .before .before .before .before .before .before .before .before .before .free-slot .result ≡ freeSlot b = c .before .before .before .before .before .before .before .before .before .before .before .before .free-slot .ensures in
+      let er = read-number b (a .q) (length (now (a .area))) es (c .before .before .before .before .before .before .before .before .before .before .before .read-refusal .ensures cells) in
+      let z : readRefusal b (a .q) (length (now (a .area))) ≡ 0 = sym er ∙ c .before .before .before .before .before .before .before .before .before .before .if1 .left in
+      rw (c .accepted-as .ensures)
+      (read-done b (bridgeOf (fixed (a .s) cells) (a .c) (now (a .missing)) (now (a .tags)) x)
+      (bridgeOf (fixed (a .s) cells) (t .result .core) (t .last .1 .1 .0) (t .last .1 .1 .1 .0) x) (a .q) (c .before .before .before .before .before .before .before .before .before .before .before .before .free-slot .result) (t .result .at) (now (a .area))
+      (t .last .1 .1 .1 .1 .1 .1 .0) es z
+      (c .before .before .before .before .before .before .before .before .claim .ensures (fixed (a .s) cells) (a .c) (now (a .missing)) (now (a .tags)) refl)
+      (t .ensures .0 cells x) (t .ensures .1 .0 cells x) (t .ensures .1 .1 cells x) .0),
+  λ cells.
+      let b = bridgeOf (fixed (a .s) cells) (a .c) (now (a .missing)) (now (a .tags)) (now (a .slots)) in
+      let es : c .before .before .before .before .before .before .before .before .before .before .before .before .free-slot .result ≡ freeSlot b = c .before .before .before .before .before .before .before .before .before .before .before .before .free-slot .ensures in
+      let er = read-number b (a .q) (length (now (a .area))) es (c .before .before .before .before .before .before .before .before .before .before .before .read-refusal .ensures cells) in
+      let z : readRefusal b (a .q) (length (now (a .area))) ≡ 0 = sym er ∙ c .before .before .before .before .before .before .before .before .before .before .if1 .left in
+      (read-done b (bridgeOf (fixed (a .s) cells) (a .c) (now (a .missing)) (now (a .tags)) x)
+      (bridgeOf (fixed (a .s) cells) (t .result .core) (t .last .1 .1 .0) (t .last .1 .1 .1 .0) x) (a .q) (c .before .before .before .before .before .before .before .before .before .before .before .before .free-slot .result) (t .result .at) (now (a .area))
+      (t .last .1 .1 .1 .1 .1 .1 .0) es z
+      (c .before .before .before .before .before .before .before .before .claim .ensures (fixed (a .s) cells) (a .c) (now (a .missing)) (now (a .tags)) refl)
+      (t .ensures .0 cells x) (t .ensures .1 .0 cells x) (t .ensures .1 .1 cells x) .1),
+)
 
 pub read-in-spec : {M : Type 1} → statement M
 read-in-spec =

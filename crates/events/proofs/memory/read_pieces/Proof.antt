@@ -9,7 +9,6 @@ use lib.Dec.{eqb}
 use denote.Ref.{now}
 use borrow.Author.Needs.{needs}
 use borrow.Author.Tests.{lt-ltb, le-ltb, le-leb, lt-leb, eq-eqb, ne-eqb, not-true, not-false}
-use Rattle.address.specs.declared.Settings.{Settings}
 use Rattle.parts.specs.declared.Core.{Core}
 use Rattle.parts.specs.Sizes.{tagCount, slotCount}
 use Rattle.parts.proofs.Columns.{get}
@@ -23,7 +22,7 @@ use Rattle.burst.specs.Pieces.{pieceCount}
 use Rattle.packets.proofs.Packets.{packet-short}
 use lib.Seq.{paste, length-paste}
 use Rattle.machine.specs.Memory.{piecesOf, pieceOf, memoryRequest, packet}
-use Rattle.machine.specs.contracts.Tables.{bridgeOf}
+use Rattle.machine.specs.contracts.Tables.{fixed, bridgeOf}
 use Rattle.machine.proofs.Reading.{Turned, turned-none, turned-more, lowest-below, one-less, opened-free}
 use Rattle.events.proofs.memory.read_pieces.Statement.{statement}
 use Rattle.events.proofs.memory.read_pieces.Tie as tie
@@ -40,7 +39,7 @@ Inv-loop s missing₀ tags₀ slot q area₀ shift n count core₀ at₀ k₀ mi
     × ((available tagCount (core .free) + k ≡ available tagCount (core₀ .free))
     × ((at ≤ 16 * k)
     × ((length area ≡ length area₀)
-    × ((x : List ℕ) → Turned slot q (bridgeOf s core₀ missing₀ tags₀ x) (bridgeOf s core missing tags x) area₀ area at k))))
+    × ((cells x : List ℕ) → Turned slot q (bridgeOf (fixed s cells) core₀ missing₀ tags₀ x) (bridgeOf (fixed s cells) core missing tags x) area₀ area at k))))
 
 abbrev μ-loop : tie.MeasureT-loop
 μ-loop s missing₀ tags₀ slot q area₀ shift n count core₀ at₀ k₀ missing tags area core at k = count - k
@@ -56,7 +55,7 @@ piece-count-requires c κs = tt
 
 loop-holds : tie.Need-loop-holds Inv-loop μ-loop
 loop-holds c = let a = c .before .before .before .before .before .before .args in
-    (zero-le, (omega arith, (zero-le, (refl, λ x. turned-none (a .slot) (a .q) (bridgeOf (a .s) (a .c) (now (a .missing)) (now (a .tags)) x) (now (a .area))))))
+    (zero-le, (omega arith, (zero-le, (refl, λ cells x. turned-none (a .slot) (a .q) (bridgeOf (fixed (a .s) cells) (a .c) (now (a .missing)) (now (a .tags)) x) (now (a .area))))))
 
 read-turn-requires : tie.Need-read-turn-requires Inv-loop μ-loop
 read-turn-requires c κs = let a = c .before .before .before .before .before .before .before .before .before .before .before .args in
@@ -86,7 +85,7 @@ loop-again c = let a = c .before .before .before .before .before .before .before
     let m = memoryRequest false (a .s .requester) (lowest tagCount (c .before .before .before .before .before .before .before .before .loop .core .free)) (translated (c .before .before .before .before .before .before .before .before .before .before .before .shift-of .result .base) (c .before .before .before .before .before .before .before .before .before .before .before .shift-of .result .target) (axi (p .first)) .0) (p .length) in
     let z = packet-short m in
     let o = one-less (c .before .before .before .before .before .before .before .before .loop .core .free) h in
-    let f : t .result .core .free ≡ clearBit (c .before .before .before .before .before .before .before .before .loop .core .free) (lowest tagCount (c .before .before .before .before .before .before .before .before .loop .core .free)) = opened-free _ (bridgeOf (a .s) (c .before .before .before .before .before .before .before .before .loop .core) (c .before .before .before .before .before .before .before .before .loop .missing) (c .before .before .before .before .before .before .before .before .loop .tags) []) (bridgeOf (a .s) (t .result .core) (t .last .1 .0) (t .last .1 .1 .0) []) (t .ensures .0 (a .s) []) in
+    let f : t .result .core .free ≡ clearBit (c .before .before .before .before .before .before .before .before .loop .core .free) (lowest tagCount (c .before .before .before .before .before .before .before .before .loop .core .free)) = opened-free _ (bridgeOf (fixed (a .s) []) (c .before .before .before .before .before .before .before .before .loop .core) (c .before .before .before .before .before .before .before .before .loop .missing) (c .before .before .before .before .before .before .before .before .loop .tags) []) (bridgeOf (fixed (a .s) []) (t .result .core) (t .last .1 .0) (t .last .1 .1 .0) []) (t .ensures .0 (fixed (a .s) []) []) in
     let g : available tagCount (t .result .core .free) ≡ available tagCount (clearBit (c .before .before .before .before .before .before .before .before .loop .core .free) (lowest tagCount (c .before .before .before .before .before .before .before .before .loop .core .free))) = ap (available tagCount) f in
     let y : length (t .last .1 .1 .1 .1 .1 .1 .1 .1 .1 .1 .0) ≡ length (c .before .before .before .before .before .before .before .before .loop .area) = ap length (t .ensures .1 .1) ∙ length-paste (c .before .before .before .before .before .before .before .before .loop .area) (c .before .before .before .before .before .before .before .before .loop .at) (packet m []) (length (packet m [])) (omega arith) (omega arith) in (
       omega (arith, c .before .before .before .before .before .before .before .loop-test .taken),
@@ -96,8 +95,8 @@ loop-again c = let a = c .before .before .before .before .before .before .before
           omega (arith, t .ensures .1 .0, z, i .1 .1 .0),
           (
             y ∙ i .1 .1 .1 .0,
-            λ x.
-                turned-more (a .slot) (a .q) (bridgeOf (a .s) (a .c) (now (a .missing)) (now (a .tags)) x) (now (a .area)) (c .before .before .before .before .before .before .before .before .before .before .before .shift-of .result .base) (c .before .before .before .before .before .before .before .before .before .before .before .shift-of .result .target) (c .before .before .before .before .before .before .before .before .before .before .before .shift-of .ensures .0) (c .before .before .before .before .before .before .before .before .before .before .before .shift-of .ensures .1) (bridgeOf (a .s) (c .before .before .before .before .before .before .before .before .loop .core) (c .before .before .before .before .before .before .before .before .loop .missing) (c .before .before .before .before .before .before .before .before .loop .tags) x) (bridgeOf (a .s) (t .result .core) (t .last .1 .0) (t .last .1 .1 .0) x) (c .before .before .before .before .before .before .before .before .loop .area) (t .last .1 .1 .1 .1 .1 .1 .1 .1 .1 .1 .0) (c .before .before .before .before .before .before .before .before .loop .at) (t .result .at) k (i .1 .1 .1 .1 x) (t .ensures .0 (a .s) x) (t .ensures .1 .0) (t .ensures .1 .1),
+            λ cells x.
+                turned-more (a .slot) (a .q) (bridgeOf (fixed (a .s) cells) (a .c) (now (a .missing)) (now (a .tags)) x) (now (a .area)) (c .before .before .before .before .before .before .before .before .before .before .before .shift-of .result .base) (c .before .before .before .before .before .before .before .before .before .before .before .shift-of .result .target) (c .before .before .before .before .before .before .before .before .before .before .before .shift-of .ensures .0) (c .before .before .before .before .before .before .before .before .before .before .before .shift-of .ensures .1) (bridgeOf (fixed (a .s) cells) (c .before .before .before .before .before .before .before .before .loop .core) (c .before .before .before .before .before .before .before .before .loop .missing) (c .before .before .before .before .before .before .before .before .loop .tags) x) (bridgeOf (fixed (a .s) cells) (t .result .core) (t .last .1 .0) (t .last .1 .1 .0) x) (c .before .before .before .before .before .before .before .before .loop .area) (t .last .1 .1 .1 .1 .1 .1 .1 .1 .1 .1 .0) (c .before .before .before .before .before .before .before .before .loop .at) (t .result .at) k (i .1 .1 .1 .1 cells x) (t .ensures .0 (fixed (a .s) cells) x) (t .ensures .1 .0) (t .ensures .1 .1),
           ),
         ),
       ),
@@ -111,7 +110,7 @@ returns c = let a = c .before .before .before .before .before .before .before .b
     let cnt : c .before .before .piece-count .result ≡ piecesOf (a .s .reads) (a .q) = c .before .before .piece-count .ensures ∙ ap (λ x. pieceCount (a .s .reads) (a .q .start .0) x) (c .before .before .before .length-of .ensures .0) in
     let e : c .before .loop .k ≡ piecesOf (a .s .reads) (a .q) = omega (arith, cnt, c .before .loop .inv .0, c .loop-test .left) in
     let t = c .before .loop .inv .1 .1 .1 .1 in
-    (λ x. rw (← e) (t x .bridge-is), (λ x. rw (← e) (t x .at-is), λ x. rw (← e) (t x .area-is)))
+    (λ cells x. rw (← e) (t cells x .bridge-is), (λ cells x. rw (← e) (t cells x .at-is), λ cells x. rw (← e) (t cells x .area-is)))
 
 pub read-pieces-spec : {M : Type 1} → statement M
 read-pieces-spec =

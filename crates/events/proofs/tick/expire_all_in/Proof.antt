@@ -9,7 +9,7 @@ use lib.Dec.{eqb}
 use denote.Ref.{now}
 use borrow.Author.Needs.{needs}
 use borrow.Author.Tests.{lt-ltb, le-ltb, le-leb, lt-leb, eq-eqb, ne-eqb, not-true, not-false}
-use Rattle.address.specs.declared.Settings.{Settings}
+use Rattle.machine.specs.contracts.Tables.{Fixed}
 use Rattle.parts.specs.declared.Core.{Core}
 use Rattle.parts.specs.Sizes.{tagCount, slotCount}
 use Rattle.parts.proofs.Columns.{get}
@@ -29,7 +29,7 @@ abbrev Inv-loop : tie.InvT-loop
 Inv-loop limit missing₀ tags slots₀ store₀ d₀ t₀ missing slots store d t =
     (t ≤ 32)
     × ((length store ≡ length store₀)
-    × ((s : Settings) → s .limit ≡ limit → heldOf s d missing tags slots store ≡ expireTo (heldOf s d₀ missing₀ tags slots₀ store₀) t))
+    × ((s : Fixed) → s .settings .limit ≡ limit → heldOf s d missing tags slots store ≡ expireTo (heldOf s d₀ missing₀ tags slots₀ store₀) t))
 
 abbrev μ-loop : tie.MeasureT-loop
 μ-loop limit missing₀ tags slots₀ store₀ d₀ t₀ missing slots store d t = 32 - t
@@ -76,7 +76,7 @@ unfolding expireTo expire
 loop-again c = let t = c .before .before .before .before .before .before .loop .t in
     let l : t < tagCount = omega arith in
     let tags = now (c .before .before .before .before .before .before .before .before .args .tags) in
-    let o : (s : Settings) → s .limit ≡ c .before .before .before .before .before .before .before .before .args .limit → isOpen (getD (c .before .before .before .before .before .before .loop .missing) t 0) (getD tags (placeColumn + t) 0) && eqb (ageOf (c .before .before .before .before .before .before .loop .d .ticks) (getD tags (sentColumn + t) 0)) (s .limit) ≡ false =
+    let o : (s : Fixed) → s .settings .limit ≡ c .before .before .before .before .before .before .before .before .args .limit → isOpen (getD (c .before .before .before .before .before .before .loop .missing) t 0) (getD tags (placeColumn + t) 0) && eqb (ageOf (c .before .before .before .before .before .before .loop .d .ticks) (getD tags (sentColumn + t) 0)) (s .settings .limit) ≡ false =
     λ s e. ap (λ (n : ℕ). isOpen (getD (c .before .before .before .before .before .before .loop .missing) t 0) (getD tags (placeColumn + t) 0) && eqb (ageOf (c .before .before .before .before .before .before .loop .d .ticks) (getD tags (sentColumn + t) 0)) n) e
     ∙ (sym (c .before .is-old .ensures) ∙ not-true (c .before .is-old .result) (c .if1 .taken)) in (
       omega arith,
@@ -100,7 +100,7 @@ unfolding expireTo expire
 loop-again-2 c = let t = c .before .before .before .before .before .before .before .before .before .before .before .before .loop .t in
     let l : t < tagCount = omega arith in
     let tags = now (c .before .before .before .before .before .before .before .before .before .before .before .before .before .before .args .tags) in
-    let o : (s : Settings) → s .limit ≡ c .before .before .before .before .before .before .before .before .before .before .before .before .before .before .args .limit → isOpen (getD (c .before .before .before .before .before .before .before .before .before .before .before .before .loop .missing) t 0) (getD tags (placeColumn + t) 0) && eqb (ageOf (c .before .before .before .before .before .before .before .before .before .before .before .before .loop .d .ticks) (getD tags (sentColumn + t) 0)) (s .limit) ≡ true =
+    let o : (s : Fixed) → s .settings .limit ≡ c .before .before .before .before .before .before .before .before .before .before .before .before .before .before .args .limit → isOpen (getD (c .before .before .before .before .before .before .before .before .before .before .before .before .loop .missing) t 0) (getD tags (placeColumn + t) 0) && eqb (ageOf (c .before .before .before .before .before .before .before .before .before .before .before .before .loop .d .ticks) (getD tags (sentColumn + t) 0)) (s .settings .limit) ≡ true =
     λ s e. ap (λ (n : ℕ). isOpen (getD (c .before .before .before .before .before .before .before .before .before .before .before .before .loop .missing) t 0) (getD tags (placeColumn + t) 0) && eqb (ageOf (c .before .before .before .before .before .before .before .before .before .before .before .before .loop .d .ticks) (getD tags (sentColumn + t) 0)) n) e
     ∙ (sym (c .before .before .before .before .before .before .before .is-old .ensures) ∙ not-false (c .before .before .before .before .before .before .before .is-old .result) (c .before .before .before .before .before .before .if1 .left)) in (
       omega arith,

@@ -8,7 +8,6 @@ use lib.ListN.{getD, set, length}
 use lib.Dec.{eqb}
 use denote.Ref.{now}
 use borrow.Author.Tests.{lt-ltb, le-ltb, le-leb, lt-leb, eq-eqb, ne-eqb, not-true, not-false}
-use Rattle.address.specs.declared.Settings.{Settings}
 use Rattle.parts.specs.declared.Core.{Core}
 use Rattle.parts.specs.Sizes.{tagCount, slotCount}
 use Rattle.parts.proofs.Columns.{get}
@@ -16,7 +15,7 @@ use Rattle.machine.specs.State.{Bridge}
 use Rattle.machine.specs.Ticks.{ticked}
 use Rattle.machine.specs.contracts.Tables.{heldOf}
 use Rattle.machine.proofs.Ticks.{none-old}
-use Rattle.parts.specs.Cores.{withTicks}
+use Rattle.parts.specs.contracts.Struct.{structTicks}
 use borrow.Author.Needs.{needs}
 use Rattle.events.proofs.tick.step_in.Statement.{statement}
 use Rattle.events.proofs.tick.step_in.Tie as tie
@@ -37,7 +36,7 @@ unfolding ticked
 returns c = λ s e.
     let a = c .before .before .before .before .before .args in
     rw (le-ltb _ _ (c .before .before .before .before .before .pre), ← c .before .before .before .next-tick .ensures)
-    (sym (none-old (heldOf s (withTicks (c .before .before .before .next-tick .result) (a .c)) (now (a .missing)) (now (a .tags)) (now (a .slots)) (now (a .store))) tagCount (c .before .owed .ensures (c .if1 .taken))))
+    (sym (none-old (heldOf s (structTicks (c .before .before .before .next-tick .result) (a .c)) (now (a .missing)) (now (a .tags)) (now (a .slots)) (now (a .store))) tagCount (c .before .owed .ensures (c .if1 .taken))))
 
 expire-all-in-requires : tie.Need-expire-all-in-requires
 expire-all-in-requires c κs = search needs

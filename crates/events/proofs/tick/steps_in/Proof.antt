@@ -9,7 +9,7 @@ use lib.Dec.{eqb}
 use denote.Ref.{now}
 use borrow.Author.Needs.{needs}
 use borrow.Author.Tests.{lt-ltb, le-ltb, le-leb, lt-leb, eq-eqb, ne-eqb, not-true, not-false}
-use Rattle.address.specs.declared.Settings.{Settings}
+use Rattle.machine.specs.contracts.Tables.{Fixed}
 use Rattle.parts.specs.declared.Core.{Core}
 use Rattle.parts.specs.Sizes.{tagCount, slotCount}
 use Rattle.parts.proofs.Columns.{get}
@@ -30,7 +30,7 @@ abbrev Inv-loop : tie.InvT-loop
 Inv-loop limit missing₀ tags slots₀ store₀ times d₀ done₀ missing slots store d done =
     (done ≤ times)
     × ((length store ≡ length store₀)
-    × ((s : Settings) → s .limit ≡ limit → heldOf s d missing tags slots store ≡ tickedTo (heldOf s d₀ missing₀ tags slots₀ store₀) done))
+    × ((s : Fixed) → s .settings .limit ≡ limit → heldOf s d missing tags slots store ≡ tickedTo (heldOf s d₀ missing₀ tags slots₀ store₀) done))
 
 abbrev μ-loop : tie.MeasureT-loop
 μ-loop limit missing₀ tags slots₀ store₀ times d₀ done₀ missing slots store d done = times - done

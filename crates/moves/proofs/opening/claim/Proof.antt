@@ -87,7 +87,7 @@ returns c = λ s d m t e.
     let x₂ = set x₁ (faultColumn + k) 4096 in
     let x₃ = set x₂ (piecesColumn + k) q in
     let x₄ = set x₃ (sizeColumn + k) n in
-    let w : q ≡ pieceCount (s .reads) (a .q .start .0) n = c .before .piece-count .ensures ∙ ap (λ (l : ℕ). pieceCount l (a .q .start .0) n) (sym e) in
+    let w : q ≡ pieceCount (s .settings .reads) (a .q .start .0) n = c .before .piece-count .ensures ∙ ap (λ (l : ℕ). pieceCount l (a .q .start .0) n) (sym e) in
     rw (← c .index .ensures .0, ← c .before .before .length-of .ensures .0, ← w)
     (put-state s d m t x₄ k 1 b
     ∙ ap (setState k 1)

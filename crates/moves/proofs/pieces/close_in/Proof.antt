@@ -1,3 +1,4 @@
+use Rattle.parts.specs.contracts.Struct.{structFree}
 use mathlib.Core.Path.{_≡_, refl, sym, ap, _∙_}
 use mathlib.Core.List.{List}
 use Prim.Native.Nat.{ℕ, _+_, _-_, _*_, _≤_, _<_, min}
@@ -43,8 +44,8 @@ unfolding shut freed
 returns c = λ s t.
     let a = c .before .before .before .before .before .before .before .before .before .before .args in
     rw (c .free-in .ensures)
-    (c .before .before .before .close-piece-in .ensures s (withFree (setBit tagCount (a .c .free) (a .tag)) (a .c)) (c .before .before .before .before .before .before .shut-in .last .0) t
-    ∙ ap (λ (m : List ℕ). pieceClosed (a .k) (heldOf s (withFree (setBit tagCount (a .c .free) (a .tag)) (a .c)) m t (now (a .slots)) (now (a .store))))
+    (c .before .before .before .close-piece-in .ensures s (structFree (setBit tagCount (a .c .free) (a .tag)) (a .c)) (c .before .before .before .before .before .before .shut-in .last .0) t
+    ∙ ap (λ (m : List ℕ). pieceClosed (a .k) (heldOf s (structFree (setBit tagCount (a .c .free) (a .tag)) (a .c)) m t (now (a .slots)) (now (a .store))))
     (rw (c .before .before .before .before .before .before .before .index .ensures .0) at (c .before .before .before .before .before .before .shut-in .ensures)))
 
 pub close-in-spec : {M : Type 1} → statement M

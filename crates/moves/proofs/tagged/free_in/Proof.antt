@@ -9,7 +9,7 @@ freed-requires : tie.Need-freed-requires
 freed-requires c κs = search needs
 
 returns : tie.Need-returns
-returns c = rw (c .freed .ensures)
+returns c = λ cells. rw (c .freed .ensures)
 
 pub free-in-spec : {M : Type 1} → statement M
 free-in-spec = tie.close (tie.spec freed-requires returns)

@@ -1,3 +1,4 @@
+use Rattle.parts.specs.contracts.Struct.{structFree}
 use mathlib.Core.Path.{_≡_, refl, sym, ap, _∙_}
 use mathlib.Core.List.{List}
 use Prim.Native.Nat.{ℕ, _+_, _-_, _*_, _≤_, _<_, min}
@@ -13,7 +14,6 @@ use Rattle.machine.proofs.Tables.{put-sent, put-owner, put-place, put-next, put
 use Rattle.machine.specs.State.{opened}
 use Rattle.bits.specs.Bits.{clearBit}
 use Rattle.tags.specs.Tags.{lowest}
-use Rattle.parts.specs.Cores.{withFree}
 use borrow.Author.Needs.{needs}
 use Rattle.moves.proofs.tagged.open_in.Statement.{statement}
 use Rattle.moves.proofs.tagged.open_in.Tie as tie
@@ -95,7 +95,7 @@ returns c = λ s x.
     let t₂ = set t₁ (ownerColumn + t) (a .p .slot) in
     let t₃ = set t₂ (placeColumn + t) (a .p .place) in
     let t₄ = set t₃ (nextColumn + t) (a .p .next) in
-    let d = withFree (clearBit (a .c .free) t) (a .c) in
+    let d = structFree (clearBit (a .c .free) t) (a .c) in
     rw (c .taken .ensures, ← c .before .index .ensures .0)
     (rw (← e)
     (put-kind s d m t₄ x t (a .p .kind) b
