@@ -1,25 +1,58 @@
 -- The bridge that a struct of the code is: its tables' columns.
 use mathlib.Core.Path.{_≡_}
+use mathlib.Core.List.{List}
 use lib.ListN.{length}
+use Prim.Native.Nat.{ℕ}
+use Rattle.messages.specs.declared.queue.Ring.{Ring}
 use Rattle.parts.specs.contracts.Columns.{tagCells, slotCells}
 use Rattle.bridge.specs.declared.Bridge as code
 use Rattle.bridge.specs.declared.Answered as answer
 use Rattle.machine.specs.State.{Bridge, Answered, answered}
-use Rattle.machine.specs.contracts.Tables.{bridgeOf}
+use Rattle.machine.specs.contracts.Tables.{fixed, bridgeOf}
 
 abbrev pub viewOf : code.Bridge → Bridge
-viewOf b = bridgeOf (b .settings) (b .core) (b .missing) (b .tags) (b .slots)
+viewOf b = bridgeOf (fixed (b .settings) (b .cells)) (b .core) (b .missing) (b .tags) (b .slots)
 
 -- an answered call
 abbrev pub stepOf : answer.Answered → Answered
 stepOf r = answered (viewOf (r .bridge)) (r .answer)
 
--- ---- two structs with the same view are equal
+-- ---- two structs with the same view are equal, but for where the queued messages stand in their cells
 
 -- the tables have their lengths: `Bridge::registers` says so of every struct
 pub record Whole (b : code.Bridge) : Type 0 where
   pub tags : length (b .tags) ≡ tagCells
   pub slots : length (b .slots) ≡ slotCells
 
+-- a struct with its queue elsewhere
+abbrev pub moved : Ring → List ℕ → code.Bridge → code.Bridge
+moved ring cells b =
+    record {
+      settings = b .settings;
+      core =
+          record {
+            registers =
+                record {
+                  primary = b .core .registers .primary;
+                  secondary = b .core .registers .secondary;
+                  subordinate = b .core .registers .subordinate;
+                  disable = b .core .registers .disable;
+                  decode = b .core .registers .decode;
+                  mask = b .core .registers .mask;
+                  link = b .core .registers .link;
+                  errors = ring;
+                  overflow = b .core .registers .overflow;
+                };
+            ticks = b .core .ticks;
+            free = b .core .free;
+            config = b .core .config;
+          };
+      missing = b .missing;
+      tags = b .tags;
+      slots = b .slots;
+      cells = cells;
+    }
+
 abbrev pub ViewDecides : Type 0
-ViewDecides = (x y : code.Bridge) → Whole x → Whole y → viewOf x ≡ viewOf y → x ≡ y
+ViewDecides =
+    (x y : code.Bridge) → Whole x → Whole y → viewOf x ≡ viewOf y → moved (y .core .registers .errors) (y .cells) x ≡ y

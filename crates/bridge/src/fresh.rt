@@ -4,6 +4,7 @@ use crate::Bridge;
 use crate::Response;
 use address::Settings;
 use ecam::Registers;
+use messages::queue::DEPTH;
 use parts::SLOT_CELLS;
 use parts::TAG_CELLS;
 use parts::TAGS;
@@ -13,6 +14,8 @@ use parts::cores::fresh_core;
 use refusals::SETTING;
 ghost use mathlib.Core.Path.{_≡_};
 ghost use Rattle.machine.specs.State.{freshBridge, newBridge, registersOf, lineOf};
+ghost use Rattle.ecam.specs.Registers.{localRead};
+ghost use Rattle.ecam.specs.contracts.Struct.{registersFrom};
 ghost use Rattle.bridge.specs.View.{Whole, viewOf, stepOf};
 
 fn fresh_bridge(s: Settings) -> Bridge
@@ -24,6 +27,7 @@ fn fresh_bridge(s: Settings) -> Bridge
         missing: [0; TAGS],
         tags: [0; TAG_CELLS],
         slots: [0; SLOT_CELLS],
+        cells: [0; DEPTH],
     }
 }
 
@@ -48,12 +52,23 @@ impl Bridge {
         }
     }
 
-    // The registers, which the local words show; and of every struct, that its tables have their lengths.
+    // The registers but for the entries of the queue, which stand in `cells`; and of every struct, that its tables have their
+    // lengths.
     pub fn registers(self) -> Registers
-        ensures { λ r. ⌜ (r ≡ registersOf (viewOf self)) × Whole self ⌝ }
+        ensures { λ r. ⌜ (registersFrom r (self .cells) ≡ registersOf (viewOf self)) × Whole self ⌝ }
     {
         let core = self.core;
         core.registers
+    }
+
+    // What a local word shows.
+    pub fn word(self, word: u32) -> u32
+        ensures { λ r. ⌜ r ≡ localRead (registersOf (viewOf self)) word ⌝ }
+    {
+        let core = self.core;
+        let registers = core.registers;
+        let cells = self.cells;
+        ecam::local_read(registers, &cells, word)
     }
 
     // The interrupt line.

@@ -3,6 +3,7 @@ mod fresh;
 mod methods;
 
 use address::Settings;
+use messages::queue::DEPTH;
 pub use parts::Answer;
 pub use parts::ConfigSlot;
 pub use parts::Core;
@@ -19,6 +20,8 @@ pub struct Bridge {
     // By tag and by slot: the columns that `parts` names.
     pub tags: [u32; TAG_CELLS],
     pub slots: [u32; SLOT_CELLS],
+    // The entries of the queued error messages; `core.registers.errors` says where they begin and how many there are.
+    pub cells: [u32; DEPTH],
 }
 
 pub struct Answered {

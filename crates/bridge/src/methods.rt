@@ -7,6 +7,7 @@ use events::config::config_in;
 use events::link::link_in;
 use events::memory::read_in;
 use events::memory::write_in;
+use events::message::message_in;
 use events::take::look_in;
 use events::take::release_in;
 use events::take::take_number_in;
@@ -17,6 +18,7 @@ ghost use Rattle.machine.specs.Memory.{readStep, readArea, writeStep, writeArea
 ghost use Rattle.machine.specs.Config.{accessOf, configStep, configArea};
 ghost use Rattle.machine.specs.Completions.{held, completed, completeStep};
 ghost use Rattle.machine.specs.Ticks.{ticked, tickStep, linked, linkStep};
+ghost use Rattle.machine.specs.Messages.{messageStep};
 ghost use Rattle.machine.specs.Take.{takeRefusal, looked, releaseStep};
 ghost use Rattle.bridge.specs.View.{viewOf, stepOf};
 
@@ -74,12 +76,14 @@ impl Bridge {
     {
         let settings = self.settings;
         let core = self.core;
+        let cells = self.cells;
         let mut missing = self.missing;
         let mut tags = self.tags;
         let d = config_in(
             settings.bits,
             settings.requester,
             core,
+            &cells,
             &mut missing,
             &mut tags,
             offset,
@@ -167,6 +171,24 @@ impl Bridge {
         b.core = after;
         b.missing = missing;
         b.slots = slots;
+        Answered {
+            bridge: b,
+            answer: answer,
+        }
+    }
+
+    // An error message came: these bytes.
+    pub fn message(self, packet: &[u8]) -> Answered
+        ensures { λ r. ⌜ stepOf r ≡ messageStep (viewOf self) (now (packet .entry)) ⌝ }
+    {
+        let core = self.core;
+        let mut cells = self.cells;
+        let d = message_in(core, &mut cells, packet);
+        let after = d.core;
+        let answer = d.answer;
+        let mut b = self;
+        b.core = after;
+        b.cells = cells;
         Answered {
             bridge: b,
             answer: answer,

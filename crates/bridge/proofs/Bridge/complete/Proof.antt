@@ -1,3 +1,4 @@
+use Rattle.machine.specs.contracts.Tables.{fixed}
 use mathlib.Core.Path.{_≡_, refl, sym, ap, _∙_}
 use borrow.Author.Tests.{eq-eqb, ne-eqb}
 use Rattle.machine.specs.Completions.{Held}
@@ -16,8 +17,8 @@ same-length c = search needs
 
 returns : tie.Need-returns
 returns c = let b = c .before .before .before .before .before .before .before .before .before .before .before .before .before .before .before .before .args .self in
-    let x = c .before .before .before .before .complete-in .ensures .0 (b .settings) refl in
-    (rw (← x, c .before .before .before .before .complete-in .ensures .1 (b .settings) refl), ap (λ (h : Held). h .store) x)
+    let x = c .before .before .before .before .complete-in .ensures .0 (fixed (b .settings) (b .cells)) refl in
+    (rw (← x, c .before .before .before .before .complete-in .ensures .1 (fixed (b .settings) (b .cells)) refl), ap (λ (h : Held). h .store) x)
 
 pub complete-spec : {M : Type 1} → statement M
 complete-spec = tie.close (tie.spec complete-in-requires same-length returns)

@@ -14,7 +14,7 @@ same-length : tie.Need-same-length
 same-length c = search needs
 
 returns : tie.Need-returns
-returns c = let b = c .before .before .before .before .before .before .before .before .before .before .before .before .before .args .self in (c .before .before .before .before .config-in .ensures .0 (b .settings) (b .slots) refl refl, c .before .before .before .before .config-in .ensures .1 (b .settings) (b .slots) refl refl)
+returns c = let b = c .before .before .before .before .before .before .before .before .before .before .before .before .before .before .before .args .self in (c .before .before .before .before .config-in .ensures .0 (b .settings) (b .slots) refl refl, c .before .before .before .before .config-in .ensures .1 (b .settings) (b .slots) refl refl)
 
 pub config-spec : {M : Type 1} → statement M
 config-spec = tie.close (tie.spec config-in-requires same-length returns)

@@ -1,3 +1,4 @@
+use Rattle.machine.specs.contracts.Tables.{fixed}
 use mathlib.Core.Path.{_≡_, refl, sym, ap, _∙_}
 use borrow.Author.Tests.{eq-eqb, ne-eqb}
 use Rattle.machine.specs.Completions.{Held}
@@ -16,7 +17,7 @@ same-length c = search needs
 
 returns : tie.Need-returns
 returns c = let b = c .before .before .before .before .before .before .before .before .before .before .before .before .args .self in
-    let x = c .before .before .before .before .link-in .ensures .1 (b .settings) (b .tags) in
+    let x = c .before .before .before .before .link-in .ensures .1 (fixed (b .settings) (b .cells)) (b .tags) in
     (rw (← x, c .before .before .before .before .link-in .ensures .0), ap (λ (h : Held). h .store) x)
 
 pub link-spec : {M : Type 1} → statement M

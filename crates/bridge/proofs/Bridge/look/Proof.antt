@@ -1,3 +1,4 @@
+use Rattle.machine.specs.contracts.Tables.{fixed}
 use mathlib.Core.Path.{_≡_, refl, sym, ap, _∙_}
 use borrow.Author.Tests.{eq-eqb, ne-eqb}
 use borrow.Author.Needs.{needs}
@@ -11,7 +12,7 @@ look-in-requires : tie.Need-look-in-requires
 look-in-requires c κs = search needs
 
 returns : tie.Need-returns
-returns c = let b = c .before .before .before .before .before .args .self in c .look-in .ensures (b .settings) (b .missing) (b .tags)
+returns c = let b = c .before .before .before .before .before .args .self in c .look-in .ensures (fixed (b .settings) (b .cells)) (b .missing) (b .tags)
 
 pub look-spec : {M : Type 1} → statement M
 look-spec = tie.close (tie.spec look-in-requires returns)

@@ -14,7 +14,7 @@ same-length : tie.Need-same-length
 same-length c = search needs
 
 returns : tie.Need-returns
-returns c = let b = c .before .before .before .before .before .before .before .before .before .before .args .self in (c .before .before .before .before .write-in .ensures .0 (b .missing) (b .tags) (b .slots), c .before .before .before .before .write-in .ensures .1 (b .missing) (b .tags) (b .slots))
+returns c = let b = c .before .before .before .before .before .before .before .before .before .before .args .self in (c .before .before .before .before .write-in .ensures .0 (b .cells) (b .missing) (b .tags) (b .slots), c .before .before .before .before .write-in .ensures .1 (b .cells) (b .missing) (b .tags) (b .slots))
 
 pub write-spec : {M : Type 1} → statement M
 write-spec = tie.close (tie.spec write-in-requires same-length returns)
