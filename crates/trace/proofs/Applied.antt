@@ -15,7 +15,7 @@ use Rattle.address.specs.Windows.{holds, firstFrom, windowOf, translated}
 use Rattle.burst.specs.Bursts.{endFrom, burstRight, burstNumber, lengthOf}
 use Rattle.burst.specs.Pieces.{pieceCount, pieceFirst, pieceEnd, pieceAt, addresses}
 use Rattle.ecam.specs.Registers.{Registers}
-use Rattle.ecam.specs.Registers.{some, decodeBits, isDecodeBit, byte, strobe, strobed, reached, cleared, numbered, writeBuses, localWrite, raised, fresh, withSecondary, withSubordinate}
+use Rattle.ecam.specs.Registers.{some, decodeBits, isDecodeBit, errorBits, isErrorBit, byte, strobe, strobed, reached, clears, cleared, numbered, writeBuses, localWrite, raised, fresh, withSecondary, withSubordinate}
 use Rattle.ecam.specs.Route.{route}
 use Rattle.ecam.specs.Request.{dataWord}
 use Rattle.machine.specs.State.{registersOf, raisedCore, opened, counted, shut, freed, freeSlotFrom, responseOf, refusalResponse, refusalChange, refusal, accepted, refused, freshCore, freshBridge, newBridge}
@@ -125,7 +125,7 @@ each-below P (suc n) (p, all) zero lt = p
 each-below P (suc n) (p, all) (suc k) lt = each-below (λ i. P (suc i)) n all k (le-of-suc-le-suc lt)
 
 left-old : Left old
-unfolding bit isSet fromBits setBit clearBit freeFrom validCompletion completionReserved readCompletion powerAmong eachFrom windowRight apart windowsRight settingsRight settingsNumber holds firstFrom windowOf translated endFrom burstRight burstNumber lengthOf pieceCount pieceFirst pieceEnd pieceAt addresses some decodeBits isDecodeBit byte strobe strobed reached cleared numbered writeBuses localWrite raised fresh route dataWord raisedCore opened counted shut freed freeSlotFrom responseOf refusalResponse refusalChange refusal accepted refused freshCore freshBridge newBridge pcieOf readRefusal claimed readTo readStep configNumber localCore routedBridge configStep memoryVerdict configVerdict faulted failed finished pieceClosed advanced memoryCompleted configAnswer configCompleted verdictOf completionOf completeRefusal expected completed timedOut expire expireTo ticked dropSlot dropSlots linkLost linked stateIn takeNumber looked slotFreed releaseStep
+unfolding bit isSet fromBits setBit clearBit freeFrom validCompletion completionReserved readCompletion powerAmong eachFrom windowRight apart windowsRight settingsRight settingsNumber holds firstFrom windowOf translated endFrom burstRight burstNumber lengthOf pieceCount pieceFirst pieceEnd pieceAt addresses some decodeBits isDecodeBit byte strobe strobed reached errorBits isErrorBit clears cleared numbered writeBuses localWrite raised fresh route dataWord raisedCore opened counted shut freed freeSlotFrom responseOf refusalResponse refusalChange refusal accepted refused freshCore freshBridge newBridge pcieOf readRefusal claimed readTo readStep configNumber localCore routedBridge configStep memoryVerdict configVerdict faulted failed finished pieceClosed advanced memoryCompleted configAnswer configCompleted verdictOf completionOf completeRefusal expected completed timedOut expire expireTo ticked dropSlot dropSlots linkLost linked stateIn takeNumber looked slotFreed releaseStep
 left-old =
     record {
       settings = settings;
@@ -138,7 +138,7 @@ left-old =
     }
 
 left-new : Left new
-unfolding bit isSet fromBits setBit clearBit freeFrom validCompletion completionReserved readCompletion powerAmong eachFrom windowRight apart windowsRight settingsRight settingsNumber holds firstFrom windowOf translated endFrom burstRight burstNumber lengthOf pieceCount pieceFirst pieceEnd pieceAt addresses some decodeBits isDecodeBit byte strobe strobed reached cleared numbered writeBuses localWrite raised fresh route dataWord raisedCore opened counted shut freed freeSlotFrom responseOf refusalResponse refusalChange refusal accepted refused freshCore freshBridge newBridge pcieOf readRefusal claimed readTo readStep configNumber localCore routedBridge configStep memoryVerdict configVerdict faulted failed finished pieceClosed advanced memoryCompleted configAnswer configCompleted verdictOf completionOf completeRefusal expected completed timedOut expire expireTo ticked dropSlot dropSlots linkLost linked stateIn takeNumber looked slotFreed releaseStep
+unfolding bit isSet fromBits setBit clearBit freeFrom validCompletion completionReserved readCompletion powerAmong eachFrom windowRight apart windowsRight settingsRight settingsNumber holds firstFrom windowOf translated endFrom burstRight burstNumber lengthOf pieceCount pieceFirst pieceEnd pieceAt addresses some decodeBits isDecodeBit byte strobe strobed reached errorBits isErrorBit clears cleared numbered writeBuses localWrite raised fresh route dataWord raisedCore opened counted shut freed freeSlotFrom responseOf refusalResponse refusalChange refusal accepted refused freshCore freshBridge newBridge pcieOf readRefusal claimed readTo readStep configNumber localCore routedBridge configStep memoryVerdict configVerdict faulted failed finished pieceClosed advanced memoryCompleted configAnswer configCompleted verdictOf completionOf completeRefusal expected completed timedOut expire expireTo ticked dropSlot dropSlots linkLost linked stateIn takeNumber looked slotFreed releaseStep
 left-new =
     record {
       settings = settings;
@@ -155,19 +155,19 @@ abbrev cleared-registers : Registers
 cleared-registers = withSubordinate (withSecondary fresh 1) 1
 
 settings-old : old .bridge .settings ≡ settings
-unfolding bit isSet fromBits setBit clearBit freeFrom validCompletion completionReserved readCompletion powerAmong eachFrom windowRight apart windowsRight settingsRight settingsNumber holds firstFrom windowOf translated endFrom burstRight burstNumber lengthOf pieceCount pieceFirst pieceEnd pieceAt addresses some decodeBits isDecodeBit byte strobe strobed reached cleared numbered writeBuses localWrite raised fresh route dataWord raisedCore opened counted shut freed freeSlotFrom responseOf refusalResponse refusalChange refusal accepted refused freshCore freshBridge newBridge pcieOf readRefusal claimed readTo readStep configNumber localCore routedBridge configStep memoryVerdict configVerdict faulted failed finished pieceClosed advanced memoryCompleted configAnswer configCompleted verdictOf completionOf completeRefusal expected completed timedOut expire expireTo ticked dropSlot dropSlots linkLost linked stateIn takeNumber looked slotFreed releaseStep
+unfolding bit isSet fromBits setBit clearBit freeFrom validCompletion completionReserved readCompletion powerAmong eachFrom windowRight apart windowsRight settingsRight settingsNumber holds firstFrom windowOf translated endFrom burstRight burstNumber lengthOf pieceCount pieceFirst pieceEnd pieceAt addresses some decodeBits isDecodeBit byte strobe strobed reached errorBits isErrorBit clears cleared numbered writeBuses localWrite raised fresh route dataWord raisedCore opened counted shut freed freeSlotFrom responseOf refusalResponse refusalChange refusal accepted refused freshCore freshBridge newBridge pcieOf readRefusal claimed readTo readStep configNumber localCore routedBridge configStep memoryVerdict configVerdict faulted failed finished pieceClosed advanced memoryCompleted configAnswer configCompleted verdictOf completionOf completeRefusal expected completed timedOut expire expireTo ticked dropSlot dropSlots linkLost linked stateIn takeNumber looked slotFreed releaseStep
 settings-old = refl
 
 settings-new : new .bridge .settings ≡ settings
-unfolding bit isSet fromBits setBit clearBit freeFrom validCompletion completionReserved readCompletion powerAmong eachFrom windowRight apart windowsRight settingsRight settingsNumber holds firstFrom windowOf translated endFrom burstRight burstNumber lengthOf pieceCount pieceFirst pieceEnd pieceAt addresses some decodeBits isDecodeBit byte strobe strobed reached cleared numbered writeBuses localWrite raised fresh route dataWord raisedCore opened counted shut freed freeSlotFrom responseOf refusalResponse refusalChange refusal accepted refused freshCore freshBridge newBridge pcieOf readRefusal claimed readTo readStep configNumber localCore routedBridge configStep memoryVerdict configVerdict faulted failed finished pieceClosed advanced memoryCompleted configAnswer configCompleted verdictOf completionOf completeRefusal expected completed timedOut expire expireTo ticked dropSlot dropSlots linkLost linked stateIn takeNumber looked slotFreed releaseStep
+unfolding bit isSet fromBits setBit clearBit freeFrom validCompletion completionReserved readCompletion powerAmong eachFrom windowRight apart windowsRight settingsRight settingsNumber holds firstFrom windowOf translated endFrom burstRight burstNumber lengthOf pieceCount pieceFirst pieceEnd pieceAt addresses some decodeBits isDecodeBit byte strobe strobed reached errorBits isErrorBit clears cleared numbered writeBuses localWrite raised fresh route dataWord raisedCore opened counted shut freed freeSlotFrom responseOf refusalResponse refusalChange refusal accepted refused freshCore freshBridge newBridge pcieOf readRefusal claimed readTo readStep configNumber localCore routedBridge configStep memoryVerdict configVerdict faulted failed finished pieceClosed advanced memoryCompleted configAnswer configCompleted verdictOf completionOf completeRefusal expected completed timedOut expire expireTo ticked dropSlot dropSlots linkLost linked stateIn takeNumber looked slotFreed releaseStep
 settings-new = refl
 
 registers-old : registersOf (old .bridge) ≡ cleared-registers
-unfolding bit isSet fromBits setBit clearBit freeFrom validCompletion completionReserved readCompletion powerAmong eachFrom windowRight apart windowsRight settingsRight settingsNumber holds firstFrom windowOf translated endFrom burstRight burstNumber lengthOf pieceCount pieceFirst pieceEnd pieceAt addresses some decodeBits isDecodeBit byte strobe strobed reached cleared numbered writeBuses localWrite raised fresh route dataWord raisedCore opened counted shut freed freeSlotFrom responseOf refusalResponse refusalChange refusal accepted refused freshCore freshBridge newBridge pcieOf readRefusal claimed readTo readStep configNumber localCore routedBridge configStep memoryVerdict configVerdict faulted failed finished pieceClosed advanced memoryCompleted configAnswer configCompleted verdictOf completionOf completeRefusal expected completed timedOut expire expireTo ticked dropSlot dropSlots linkLost linked stateIn takeNumber looked slotFreed releaseStep
+unfolding bit isSet fromBits setBit clearBit freeFrom validCompletion completionReserved readCompletion powerAmong eachFrom windowRight apart windowsRight settingsRight settingsNumber holds firstFrom windowOf translated endFrom burstRight burstNumber lengthOf pieceCount pieceFirst pieceEnd pieceAt addresses some decodeBits isDecodeBit byte strobe strobed reached errorBits isErrorBit clears cleared numbered writeBuses localWrite raised fresh route dataWord raisedCore opened counted shut freed freeSlotFrom responseOf refusalResponse refusalChange refusal accepted refused freshCore freshBridge newBridge pcieOf readRefusal claimed readTo readStep configNumber localCore routedBridge configStep memoryVerdict configVerdict faulted failed finished pieceClosed advanced memoryCompleted configAnswer configCompleted verdictOf completionOf completeRefusal expected completed timedOut expire expireTo ticked dropSlot dropSlots linkLost linked stateIn takeNumber looked slotFreed releaseStep
 registers-old = refl
 
 registers-new : registersOf (new .bridge) ≡ cleared-registers
-unfolding bit isSet fromBits setBit clearBit freeFrom validCompletion completionReserved readCompletion powerAmong eachFrom windowRight apart windowsRight settingsRight settingsNumber holds firstFrom windowOf translated endFrom burstRight burstNumber lengthOf pieceCount pieceFirst pieceEnd pieceAt addresses some decodeBits isDecodeBit byte strobe strobed reached cleared numbered writeBuses localWrite raised fresh route dataWord raisedCore opened counted shut freed freeSlotFrom responseOf refusalResponse refusalChange refusal accepted refused freshCore freshBridge newBridge pcieOf readRefusal claimed readTo readStep configNumber localCore routedBridge configStep memoryVerdict configVerdict faulted failed finished pieceClosed advanced memoryCompleted configAnswer configCompleted verdictOf completionOf completeRefusal expected completed timedOut expire expireTo ticked dropSlot dropSlots linkLost linked stateIn takeNumber looked slotFreed releaseStep
+unfolding bit isSet fromBits setBit clearBit freeFrom validCompletion completionReserved readCompletion powerAmong eachFrom windowRight apart windowsRight settingsRight settingsNumber holds firstFrom windowOf translated endFrom burstRight burstNumber lengthOf pieceCount pieceFirst pieceEnd pieceAt addresses some decodeBits isDecodeBit byte strobe strobed reached errorBits isErrorBit clears cleared numbered writeBuses localWrite raised fresh route dataWord raisedCore opened counted shut freed freeSlotFrom responseOf refusalResponse refusalChange refusal accepted refused freshCore freshBridge newBridge pcieOf readRefusal claimed readTo readStep configNumber localCore routedBridge configStep memoryVerdict configVerdict faulted failed finished pieceClosed advanced memoryCompleted configAnswer configCompleted verdictOf completionOf completeRefusal expected completed timedOut expire expireTo ticked dropSlot dropSlots linkLost linked stateIn takeNumber looked slotFreed releaseStep
 registers-new = refl
 
 at-alike : AtAlike

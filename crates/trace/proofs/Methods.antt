@@ -41,5 +41,6 @@ methods = record {
   tick = λ b store. record { bridge = refl; answer = refl; store-after = refl; area-after = refl };
   link = λ b store up. record { bridge = refl; answer = refl; store-after = refl; area-after = refl };
   release = λ b store k. record { bridge = refl; answer = refl; store-after = refl; area-after = refl };
+  message = λ b store m. record { bridge = refl; answer = refl; store-after = refl; area-after = refl };
   look = λ b store k. (refl, refl, plain-by (takeRefusal b (length store) k) (eqb (takeRefusal b (length store) k) 0) refl);
 }

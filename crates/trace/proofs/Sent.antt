@@ -78,6 +78,7 @@ module _ (h : Held) (v : Sound h) where
   nothing-sent (event.link up) w n = refl
   nothing-sent (event.call (event.look k)) w n = refl
   nothing-sent (event.call (event.release k)) w n = refl
+  nothing-sent (event.call (event.message m)) w n = refl
 
 pub asked-is-sent : AskedIsSent
 asked-is-sent s store l es =

@@ -16,6 +16,7 @@ use Rattle.machine.specs.Memory.{readRefusal, readBytes, readStep, writeRefusal
 use Rattle.machine.specs.Config.{Access, configRefusal, configBytes, configStep}
 use Rattle.machine.specs.Completions.{Held, held, completed, completeStep, plain}
 use Rattle.machine.specs.Ticks.{ticked, tickStep, linked, linkStep}
+use Rattle.machine.specs.Messages.{messageStep}
 use Rattle.machine.specs.Take.{takeRefusal, looked, releaseStep}
 
 -- what the bridge's user calls, with the arguments; of a lent sending area, its length. None of these brings a completion, ticks
@@ -27,6 +28,7 @@ pub data Call : Type 0 where
   config : Access → ℕ → Call
   look : ℕ → Call
   release : ℕ → Call
+  message : List ℕ → Call
 
 -- posted: a write sends packets that nothing answers
 abbrev pub posts : Call → Bool
@@ -35,6 +37,7 @@ posts (write q bytes room) = true
 posts (config a room) = false
 posts (look k) = false
 posts (release k) = false
+posts (message m) = false
 
 -- 'taken means released': the slot that a call would free
 abbrev pub releases : Call → Option ℕ
@@ -43,6 +46,7 @@ releases (write q bytes room) = none
 releases (config a room) = none
 releases (look k) = none
 releases (release k) = some k
+releases (message m) = none
 
 -- The number beside a completion is no part of it: it names the request that the far side answers with it, and `step` does not
 -- see it
@@ -92,6 +96,7 @@ called h (look k) =
     gives (h .bridge) (plain (takeRefusal (h .bridge) (length (h .store)) k)) [] (looked (h .bridge) (h .store) k)
 called h (release k) =
     gives (releaseStep (h .bridge) (length (h .store)) k .bridge) (releaseStep (h .bridge) (length (h .store)) k .answer) [] []
+called h (message m) = gives (messageStep (h .bridge) m .bridge) (messageStep (h .bridge) m .answer) [] []
 
 abbrev pub step : Held → Event → Result
 step h (call c) = record { after = held (called h c .bridge) (h .store); out = called h c .out }

@@ -18,7 +18,7 @@ use Rattle.machine.specs.Memory.{pcieOf, piecesOf, pieceOf, readRefusal}
 use Rattle.machine.specs.Config.{routeOf, goesOut, configRefusal}
 use Rattle.machine.specs.Verdict.{useful}
 use Rattle.machine.specs.Completions.{Held, completionOf, usefulBytes}
-use Rattle.trace.specs.Events.{Call, read, write, config, look, release, Event, call, completion, tick, link, step}
+use Rattle.trace.specs.Events.{Call, read, write, config, look, release, message, Event, call, completion, tick, link, step}
 
 -- ---- the requests sent; 'no memory write'
 
@@ -51,6 +51,7 @@ askedBy h (config a room) =
     (record { tag = lowest tagCount (h .bridge .core .free); wanted = word } ∷ []) []
 askedBy h (look k) = []
 askedBy h (release k) = []
+askedBy h (message m) = []
 
 -- no other event sends any
 abbrev pub asked : Held → Event → List Ask

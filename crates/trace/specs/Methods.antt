@@ -12,8 +12,9 @@ use Rattle.machine.specs.Memory.{filled, readStep, readArea, writeStep, writeAr
 use Rattle.machine.specs.Config.{accessOf, configStep, configArea}
 use Rattle.machine.specs.Completions.{held, completed, completeStep}
 use Rattle.machine.specs.Ticks.{ticked, tickStep, linked, linkStep}
+use Rattle.machine.specs.Messages.{messageStep}
 use Rattle.machine.specs.Take.{takeRefusal, looked, releaseStep}
-use Rattle.trace.specs.Events.{read, write, config, look, release, call, completion, tick, link, Result, step}
+use Rattle.trace.specs.Events.{read, write, config, look, release, message, call, completion, tick, link, Result, step}
 
 -- a method that answers with r: the store after it, and its area before and after; where it has no area, both are empty
 pub record Plays (x : Result) (r : Answered) (store area after : List ℕ) : Type 0 where
@@ -46,6 +47,8 @@ pub record Methods : Type 0 where
   pub release :
       (b : Bridge) (store : List ℕ) (k : ℕ)
       → Plays (step (held b store) (call (release k))) (releaseStep b (length store) k) store [] []
+  pub message :
+      (b : Bridge) (store m : List ℕ) → Plays (step (held b store) (call (message m))) (messageStep b m) store [] []
   -- a look hands back a part and leaves bridge and store; its number is what `take_number` gives
   pub look :
       (b : Bridge) (store : List ℕ) (k : ℕ)

@@ -14,11 +14,14 @@ use Rattle.machine.specs.Memory.{readStep, writeBytes, writeStep}
 use Rattle.machine.specs.Config.{Access, routeOf, goesOut, localCore, configRefusal, configBridge, configStep}
 use Rattle.machine.specs.Completions.{storeSize, Held, held, plain}
 use Rattle.machine.specs.Ticks.{storeRefusal}
+use Rattle.ecam.specs.Registers.{Registers, messaged}
+use Rattle.parts.specs.Cores.{withRegisters}
+use Rattle.machine.specs.Messages.{messageNumber, messageStep}
 use Rattle.machine.specs.Take.{releaseStep}
 use Rattle.machine.proofs.Configs.{passed}
-use Rattle.trace.specs.Events.{Call, read, write, config, look, release, Event, call, completion, tick, link, called, sentBy, step}
+use Rattle.trace.specs.Events.{Call, read, write, config, look, release, message, Event, call, completion, tick, link, called, sentBy, step}
 use Rattle.trace.specs.Sound.{Sound}
-use Rattle.trace.proofs.Alike.Twin.{refused-cores, local-cores}
+use Rattle.trace.proofs.Alike.Twin.{refused-cores, local-cores, message-cores}
 use Rattle.trace.proofs.Alike.Stores.{Pair, core-pair}
 use Rattle.trace.proofs.Alike.Times.{ticked-pair}
 use Rattle.trace.proofs.Alike.Link.{linked-pair}
@@ -61,7 +64,7 @@ module _ {h g : Held} (v : Sound h) (p : Pair h g) where
 
   call-both : (c : Call) → Both (answered (called h c .bridge) (called h c .out .answer)) (answered (called g c .bridge) (called g c .out .answer))
       (called h c .out .sent) (called g c .out .sent)
-  unfolding readStep writeStep configStep releaseStep
+  unfolding readStep writeStep configStep releaseStep messageStep
   call-both (read q room) =
       by-number _ _ _ _ _ _ (read-same (p .twin) q room)
       (λ e.
@@ -84,6 +87,15 @@ module _ {h g : Held} (v : Sound h) (p : Pair h g) where
   call-both (release k) =
       let b = by-number _ _ _ _ [] [] (take-same p k) (λ e. record { answer = given-same p k e; sent = refl; pair = freed-pair k p }) in
       record { answer = b .answer; sent = refl; pair = b .pair }
+  call-both (message m) =
+      let b =
+          by-number _ _ _ _ [] [] (ap (λ (r : Registers). messageNumber r m) (p .twin .core .registers))
+          (λ e. record {
+            answer = refl;
+            sent = refl;
+            pair = core-pair p (λ c. withRegisters (messaged (c .registers) m) c) (message-cores (p .twin .core) m);
+          }) in
+      record { answer = b .answer; sent = refl; pair = b .pair }
 
   part-same : (c : Call) → called h c .out .part ≡ called g c .out .part
   part-same (read q room) = refl
@@ -91,6 +103,7 @@ module _ {h g : Held} (v : Sound h) (p : Pair h g) where
   part-same (config a room) = refl
   part-same (look k) = looked-same p k
   part-same (release k) = refl
+  part-same (message m) = refl
 
   -- ---- any event
 

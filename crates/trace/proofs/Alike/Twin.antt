@@ -9,11 +9,12 @@ use native.Mathlib.Decide.{ℕ-discrete}
 use Rattle.bits.specs.Bits.{setBit, clearBit}
 use Rattle.tags.specs.Tags.{lowest}
 use Rattle.ecam.specs.Registers.{Registers}
-use Rattle.ecam.specs.Registers.{localRead}
+use Rattle.ecam.specs.Registers.{localRead, messaged}
+use mathlib.Core.List.{List}
 use Rattle.parts.specs.declared.ConfigSlot.{ConfigSlot}
 use Rattle.parts.specs.Cores.{Core}
 use Rattle.parts.specs.declared.Pending.{Pending}
-use Rattle.machine.specs.State.{Bridge, Tag, Slot, tagAt, slotAt, Open, tagCount, slotCount, withFree, withConfig, doneConfig, okay, raisedCore, refusalChange}
+use Rattle.machine.specs.State.{Bridge, Tag, Slot, tagAt, slotAt, Open, tagCount, slotCount, withRegisters, withFree, withConfig, doneConfig, okay, raisedCore, refusalChange}
 use Rattle.machine.specs.Config.{Access, localCore}
 use Rattle.machine.specs.Ticks.{nextTick, ageOf, withLink, linkIn}
 use Rattle.bridge_laws.specs.MemoryLaws.{Tables}
@@ -131,6 +132,16 @@ module _ {n m : ℕ} {c d : Core} (p : Cores n m c d) where
         registers = local-same a w c d (p .registers);
         free = e .free ∙ (p .free ∙ sym (f .free));
         config = equal (e .config ∙ (ap (λ (r : Registers). doneConfig (a .write) okay (cond (a .write) 0 (localRead r w))) (p .registers) ∙ sym (f .config)));
+      }
+
+  pub message-cores : (s : List ℕ) → Cores n m (withRegisters (messaged (c .registers) s) c) (withRegisters (messaged (d .registers) s) d)
+  message-cores s =
+      record {
+        early = p .early;
+        late = p .late;
+        registers = ap (λ (r : Registers). messaged r s) (p .registers);
+        free = p .free;
+        config = p .config;
       }
 
 -- ---- steps

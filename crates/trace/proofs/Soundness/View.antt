@@ -9,7 +9,7 @@ use lib.Dec.{eqb}
 use borrow.Author.Tests.{eqb-true, eqb-false, le-ltb}
 use Rattle.tlp.specs.declared.completion.Completion.{Completion}
 use Rattle.tlp.specs.declared.completion.CompletionRead.the-variants.{Header}
-use Rattle.ecam.specs.Registers.{Registers}
+use Rattle.ecam.specs.Registers.{Registers, messaged}
 use Rattle.ecam.specs.declared.Route.{Route}
 use Rattle.ecam.specs.declared.Route.the-variants.{OutOfRange, Local, Type0, Type1, NotRouted, DeviceNotZero}
 use Rattle.burst.specs.declared.Burst.{Burst}
@@ -22,6 +22,7 @@ use Rattle.machine.specs.Config.{Access, routeOf, goesOut, configRefusal, local
 use Rattle.machine.specs.Verdict.{memoryVerdict, configVerdict}
 use Rattle.machine.specs.Completions.{storeSize, Held, held, memoryCompleted, configCompleted, nextAddress, verdictOf, completionOf, isUnexpected, completeRefusal, completed}
 use Rattle.machine.specs.Ticks.{nextTick, expireTo, ticked, linkIn, linkLost, dropSlots, linked}
+use Rattle.machine.specs.Messages.{messageRefusal, messageBridge, messageStep}
 use Rattle.machine.specs.Take.{takeRefusal, slotFreed, releaseStep}
 use Rattle.parts.specs.Cores.{Core}
 use Rattle.parts.specs.declared.Answer.{Answer}
@@ -114,7 +115,7 @@ link-by h false true e = drops e
 link-by h false false e = links false (inr e)
 
 called-by : (h : Held) (c : Call) → Move h (event.call c) (held (called h c .bridge) (h .store))
-unfolding readStep writeStep configStep releaseStep
+unfolding readStep writeStep configStep releaseStep messageStep messaged
 called-by h (event.read q room) = judged h (event.read q room) (readBridge (h .bridge) q) (readRefusal (h .bridge) q room) _ reads (λ e. rw e)
 called-by h (event.write q bytes room) =
     judged h (event.write q bytes room) (h .bridge) (writeRefusal (h .bridge) q (length bytes) room) _ (λ e. idle (h .bridge .core .registers) refl refl) (λ e. refl)
@@ -124,6 +125,9 @@ called-by h (event.config a room) =
 called-by h (event.look k) = idle (h .bridge .core .registers) refl refl
 called-by h (event.release k) =
     judged h (event.release k) (slotFreed k (h .bridge)) (takeRefusal (h .bridge) (length (h .store)) k) _ releases (λ e. refl)
+called-by h (event.message m) =
+    judged h (event.message m) (messageBridge (h .bridge) m) (messageRefusal (h .bridge) m) _
+    (λ e. idle (messaged (h .bridge .core .registers) m) refl refl) (λ e. refl)
 
 pub moves : (h : Held) (e : Event) → storeSize ≤ length (h .store) → Move h e (step h e .after)
 unfolding ticked linked
