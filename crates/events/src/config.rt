@@ -1,8 +1,8 @@
 // Configuration accesses.
+use messages::queue::DEPTH;
 use moves::routed::routed_in;
 use moves::routed::stay_in;
 use parts::CONFIG_SLOT;
-use messages::queue::DEPTH;
 use parts::Core;
 use parts::Done;
 use parts::TAG_CELLS;

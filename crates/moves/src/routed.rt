@@ -2,9 +2,9 @@
 use crate::tagged::open_in;
 use common::copy_at;
 use ecam::Route;
+use messages::queue::DEPTH;
 use parts::CONFIG_SLOT;
 use parts::ConfigSlot;
-use messages::queue::DEPTH;
 use parts::Core;
 use parts::Done;
 use parts::OPEN;

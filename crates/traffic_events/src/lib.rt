@@ -10,8 +10,8 @@ use common::index;
 use lines::Shown;
 use lines::say_look;
 use lines::say_new;
+use lines::say_plain;
 use lines::say_with_area;
-use lines::say_with_store;
 use traffic_file::record;
 use traffic_text::input::flag_at;
 use traffic_text::input::long_at;
@@ -28,9 +28,18 @@ pub struct Player {
 
 // What the line of an event shows after it.
 fn shown_of(b: Bridge, event: u64, sum: u32) -> Shown {
+    let words = [
+        b.word(0x018),
+        b.word(0x134),
+        b.word(0x138),
+        b.word(0x13C),
+        b.word(0x144),
+        b.word(0x148),
+        b.word(0x154),
+    ];
     Shown {
         event: event,
-        registers: b.registers(),
+        words: words,
         line: b.line(),
         sum: sum,
     }
@@ -128,7 +137,7 @@ fn play_with_store(
     Player {
         bridge: next,
         sum: sum,
-        written: say_with_store(shown_of(next, event, sum), kind, answer),
+        written: say_plain(shown_of(next, event, sum), kind, answer),
     }
 }
 
@@ -141,6 +150,19 @@ fn play_look(p: Player, event: u64, slot: u32, store: &[u8]) -> Player {
         bridge: b,
         sum: p.sum,
         written: say_look(shown_of(b, event, p.sum), number, part),
+    }
+}
+
+// A message, which is lent neither store nor area.
+fn play_message(p: Player, event: u64, bytes: &[u8]) -> Player {
+    let b = p.bridge;
+    let r = b.message(bytes);
+    let next = r.bridge;
+    let answer = r.answer;
+    Player {
+        bridge: next,
+        sum: p.sum,
+        written: say_plain(shown_of(next, event, p.sum), record::MESSAGE, answer),
     }
 }
 
@@ -160,6 +182,9 @@ pub fn play_event(
             return play_with_area(p, event, kind, f, bytes, &mut area[0..n]);
         }
         return p;
+    }
+    if kind == record::MESSAGE {
+        return play_message(p, event, bytes);
     }
     if kind == record::LOOK {
         if n <= store.len() {

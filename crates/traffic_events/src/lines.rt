@@ -1,8 +1,6 @@
 // The lines of the bridge's events. Each function says whether its line was written.
 use bridge::Answer;
 use bridge::Response;
-use ecam::Registers;
-use ecam::local_read;
 use refusals::response_code;
 use traffic_file::record;
 use traffic_text::line::ROOM;
@@ -23,7 +21,8 @@ use traffic_text::sum::sum_of;
 // What a line shows besides its event's answer.
 pub struct Shown {
     pub event: u64,
-    pub registers: Registers,
+    // What the local words show: 018, 134, 138, 13C and 144, then 148 and 154.
+    pub words: [u32; 7],
     // The interrupt line.
     pub line: bool,
     // The store's checksum.
@@ -49,21 +48,31 @@ fn put_answer(line: &mut [u8; ROOM], at: usize, a: Answer) -> usize {
     named_word(line, sent, b"data", a.word)
 }
 
-fn put_registers(line: &mut [u8; ROOM], at: usize, r: Registers) -> usize {
-    let buses = named_word(line, at, b"regs", local_read(r, 0x018));
-    let control = word(line, buses, local_read(r, 0x134));
-    let decode = word(line, control, local_read(r, 0x138));
-    let mask = word(line, decode, local_read(r, 0x13C));
-    word(line, mask, local_read(r, 0x144))
+fn put_registers(line: &mut [u8; ROOM], at: usize, words: [u32; 7]) -> usize {
+    let buses = named_word(line, at, b"regs", words[0]);
+    let control = word(line, buses, words[1]);
+    let decode = word(line, control, words[2]);
+    let mask = word(line, decode, words[3]);
+    word(line, mask, words[4])
+}
+
+// The words of the error messages, where one of them is not 0.
+fn put_errors(line: &mut [u8; ROOM], at: usize, status: u32, oldest: u32) -> usize {
+    if (status == 0) & (oldest == 0) {
+        return at;
+    }
+    let shown = named_word(line, at, b"errors", status);
+    word(line, shown, oldest)
 }
 
 // The registers, the interrupt line and the store; then the line is printed.
 fn say(line: &mut [u8; ROOM], at: usize, s: Shown) -> bool {
-    let registers = s.registers;
-    let shown = put_registers(line, at, registers);
+    let words = s.words;
+    let shown = put_registers(line, at, words);
     let name = token(line, shown, b"line");
     let high = flag(line, name, s.line);
-    let end = named_word(line, high, b"store", s.sum);
+    let stored = named_word(line, high, b"store", s.sum);
+    let end = put_errors(line, stored, words[5], words[6]);
     print(line, end)
 }
 
@@ -84,8 +93,8 @@ pub fn say_with_area(s: Shown, kind: u32, a: Answer, area: &[u8]) -> bool {
     say(&mut line, summed, s)
 }
 
-// A completion, ticks, the link or a release.
-pub fn say_with_store(s: Shown, kind: u32, a: Answer) -> bool {
+// A completion, ticks, the link, a release or a message.
+pub fn say_plain(s: Shown, kind: u32, a: Answer) -> bool {
     let mut line = [0u8; ROOM];
     let name = begin(&mut line, s.event, kind);
     let answered = put_answer(&mut line, name, a);

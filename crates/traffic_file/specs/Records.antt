@@ -23,13 +23,20 @@ fixedSize k =
     ∷ (eqb k 10, 4)
     ∷ (eqb k 11, 34)
     ∷ (eqb k 12, 4)
+    ∷ (eqb k 13, 4)
     ∷ (eqb k 255, 4)
     ∷ [])
 
 -- the variable bytes after them
 unfoldable pub variableSize : ℕ → List ℕ → ℕ
 variableSize k f =
-    firstOf ((eqb k 2, wordAt f 24) ∷ (eqb k 4, wordAt f 4) ∷ (eqb k 10, wordAt f 0) ∷ (eqb k 12, wordAt f 0) ∷ [])
+    firstOf
+    ((eqb k 2, wordAt f 24)
+    ∷ (eqb k 4, wordAt f 4)
+    ∷ (eqb k 10, wordAt f 0)
+    ∷ (eqb k 12, wordAt f 0)
+    ∷ (eqb k 13, wordAt f 0)
+    ∷ [])
 
 -- the ticks that a record asks for
 abbrev pub ticksOf : ℕ → List ℕ → ℕ

@@ -29,6 +29,8 @@ pub const COMPLETION_WRITER: u32 = 11;
 
 pub const COMPLETION_READER: u32 = 12;
 
+pub const MESSAGE: u32 = 13;
+
 pub const END: u32 = 255;
 
 // The most bytes of fixed fields.
@@ -59,6 +61,7 @@ pub fn fixed_size(kind: u32) -> usize
         REQUEST_READER => 4,
         COMPLETION_WRITER => 34,
         COMPLETION_READER => 4,
+        MESSAGE => 4,
         END => 4,
         _ => 0,
     }
@@ -73,6 +76,7 @@ pub fn variable_size(kind: u32, f: &[u8]) -> usize
         COMPLETION => index(word_at(f, 4)),
         REQUEST_READER => index(word_at(f, 0)),
         COMPLETION_READER => index(word_at(f, 0)),
+        MESSAGE => index(word_at(f, 0)),
         _ => 0,
     }
 }

@@ -106,7 +106,7 @@ pub fn begin(line: &mut [u8; ROOM], event: u64, kind: u32) -> usize {
     put_nth(
         line,
         end,
-        b" read write config completion tick link look release request-writer request-reader completion-writer completion-reader",
+        b" read write config completion tick link look release request-writer request-reader completion-writer completion-reader message",
         kind,
     )
 }

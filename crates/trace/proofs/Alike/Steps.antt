@@ -89,12 +89,12 @@ module _ {h g : Held} (v : Sound h) (p : Pair h g) where
       record { answer = b .answer; sent = refl; pair = b .pair }
   call-both (message m) =
       let b =
-          by-number _ _ _ _ [] [] (ap (λ (r : Registers). messageNumber r m) (p .twin .core .registers))
-          (λ e. record {
-            answer = refl;
-            sent = refl;
-            pair = core-pair p (λ c. withRegisters (messaged (c .registers) m) c) (message-cores (p .twin .core) m);
-          }) in
+      by-number _ _ _ _ [] [] (ap (λ (r : Registers). messageNumber r m) (p .twin .core .registers))
+      (λ e. record {
+        answer = refl;
+        sent = refl;
+        pair = core-pair p (λ c. withRegisters (messaged (c .registers) m) c) (message-cores (p .twin .core) m);
+      }) in
       record { answer = b .answer; sent = refl; pair = b .pair }
 
   part-same : (c : Call) → called h c .out .part ≡ called g c .out .part

@@ -81,28 +81,28 @@ returns-2 : tie.Need-returns-2
 returns-2 c = let a = c .before .before .before .before .before .before .before .before .before .before .before .before .before .before .before .args in
     let x = c .before .before .before .before .before .before .before .before .claim .last .0 in
     let t = c .before .before .before .before .read-pieces in (
-  λ cells.
-      let b = bridgeOf (fixed (a .s) cells) (a .c) (now (a .missing)) (now (a .tags)) (now (a .slots)) in
-      let es : c .before .before .before .before .before .before .before .before .before .before .before .before .free-slot .result ≡ freeSlot b = c .before .before .before .before .before .before .before .before .before .before .before .before .free-slot .ensures in
-      let er = read-number b (a .q) (length (now (a .area))) es (c .before .before .before .before .before .before .before .before .before .before .before .read-refusal .ensures cells) in
-      let z : readRefusal b (a .q) (length (now (a .area))) ≡ 0 = sym er ∙ c .before .before .before .before .before .before .before .before .before .before .if1 .left in
-      rw (c .accepted-as .ensures)
-      (read-done b (bridgeOf (fixed (a .s) cells) (a .c) (now (a .missing)) (now (a .tags)) x)
-      (bridgeOf (fixed (a .s) cells) (t .result .core) (t .last .1 .1 .0) (t .last .1 .1 .1 .0) x) (a .q) (c .before .before .before .before .before .before .before .before .before .before .before .before .free-slot .result) (t .result .at) (now (a .area))
-      (t .last .1 .1 .1 .1 .1 .1 .0) es z
-      (c .before .before .before .before .before .before .before .before .claim .ensures (fixed (a .s) cells) (a .c) (now (a .missing)) (now (a .tags)) refl)
-      (t .ensures .0 cells x) (t .ensures .1 .0 cells x) (t .ensures .1 .1 cells x) .0),
-  λ cells.
-      let b = bridgeOf (fixed (a .s) cells) (a .c) (now (a .missing)) (now (a .tags)) (now (a .slots)) in
-      let es : c .before .before .before .before .before .before .before .before .before .before .before .before .free-slot .result ≡ freeSlot b = c .before .before .before .before .before .before .before .before .before .before .before .before .free-slot .ensures in
-      let er = read-number b (a .q) (length (now (a .area))) es (c .before .before .before .before .before .before .before .before .before .before .before .read-refusal .ensures cells) in
-      let z : readRefusal b (a .q) (length (now (a .area))) ≡ 0 = sym er ∙ c .before .before .before .before .before .before .before .before .before .before .if1 .left in
-      (read-done b (bridgeOf (fixed (a .s) cells) (a .c) (now (a .missing)) (now (a .tags)) x)
-      (bridgeOf (fixed (a .s) cells) (t .result .core) (t .last .1 .1 .0) (t .last .1 .1 .1 .0) x) (a .q) (c .before .before .before .before .before .before .before .before .before .before .before .before .free-slot .result) (t .result .at) (now (a .area))
-      (t .last .1 .1 .1 .1 .1 .1 .0) es z
-      (c .before .before .before .before .before .before .before .before .claim .ensures (fixed (a .s) cells) (a .c) (now (a .missing)) (now (a .tags)) refl)
-      (t .ensures .0 cells x) (t .ensures .1 .0 cells x) (t .ensures .1 .1 cells x) .1),
-)
+      λ cells.
+          let b = bridgeOf (fixed (a .s) cells) (a .c) (now (a .missing)) (now (a .tags)) (now (a .slots)) in
+          let es : c .before .before .before .before .before .before .before .before .before .before .before .before .free-slot .result ≡ freeSlot b = c .before .before .before .before .before .before .before .before .before .before .before .before .free-slot .ensures in
+          let er = read-number b (a .q) (length (now (a .area))) es (c .before .before .before .before .before .before .before .before .before .before .before .read-refusal .ensures cells) in
+          let z : readRefusal b (a .q) (length (now (a .area))) ≡ 0 = sym er ∙ c .before .before .before .before .before .before .before .before .before .before .if1 .left in
+          rw (c .accepted-as .ensures)
+          (read-done b (bridgeOf (fixed (a .s) cells) (a .c) (now (a .missing)) (now (a .tags)) x)
+          (bridgeOf (fixed (a .s) cells) (t .result .core) (t .last .1 .1 .0) (t .last .1 .1 .1 .0) x) (a .q) (c .before .before .before .before .before .before .before .before .before .before .before .before .free-slot .result) (t .result .at) (now (a .area))
+          (t .last .1 .1 .1 .1 .1 .1 .0) es z
+          (c .before .before .before .before .before .before .before .before .claim .ensures (fixed (a .s) cells) (a .c) (now (a .missing)) (now (a .tags)) refl)
+          (t .ensures .0 cells x) (t .ensures .1 .0 cells x) (t .ensures .1 .1 cells x) .0),
+      λ cells.
+          let b = bridgeOf (fixed (a .s) cells) (a .c) (now (a .missing)) (now (a .tags)) (now (a .slots)) in
+          let es : c .before .before .before .before .before .before .before .before .before .before .before .before .free-slot .result ≡ freeSlot b = c .before .before .before .before .before .before .before .before .before .before .before .before .free-slot .ensures in
+          let er = read-number b (a .q) (length (now (a .area))) es (c .before .before .before .before .before .before .before .before .before .before .before .read-refusal .ensures cells) in
+          let z : readRefusal b (a .q) (length (now (a .area))) ≡ 0 = sym er ∙ c .before .before .before .before .before .before .before .before .before .before .if1 .left in
+          (read-done b (bridgeOf (fixed (a .s) cells) (a .c) (now (a .missing)) (now (a .tags)) x)
+          (bridgeOf (fixed (a .s) cells) (t .result .core) (t .last .1 .1 .0) (t .last .1 .1 .1 .0) x) (a .q) (c .before .before .before .before .before .before .before .before .before .before .before .before .free-slot .result) (t .result .at) (now (a .area))
+          (t .last .1 .1 .1 .1 .1 .1 .0) es z
+          (c .before .before .before .before .before .before .before .before .claim .ensures (fixed (a .s) cells) (a .c) (now (a .missing)) (now (a .tags)) refl)
+          (t .ensures .0 cells x) (t .ensures .1 .0 cells x) (t .ensures .1 .1 cells x) .1),
+    )
 
 pub read-in-spec : {M : Type 1} → statement M
 read-in-spec =

@@ -29,6 +29,12 @@ word-at-requires-4 c κs = search needs
 index-requires-4 : tie.Need-index-requires-4
 index-requires-4 c κs = search needs
 
+word-at-requires-5 : tie.Need-word-at-requires-5
+word-at-requires-5 c κs = search needs
+
+index-requires-5 : tie.Need-index-requires-5
+index-requires-5 c κs = search needs
+
 returns : tie.Need-returns
 unfolding variableSize
 returns c = rw (c .before .before .match .keys1) (c .index .ensures .0 ∙ c .before .word-at .ensures)
@@ -47,7 +53,11 @@ returns-4 c = rw (c .before .before .match .keys4) (c .index4 .ensures .0 ∙ c 
 
 returns-5 : tie.Need-returns-5
 unfolding variableSize
-returns-5 c = rw (ne-eqb _ _ (c .match .rest .0 .0 .0 .1), ne-eqb _ _ (c .match .rest .0 .0 .1), ne-eqb _ _ (c .match .rest .0 .1), ne-eqb _ _ (c .match .rest .1))
+returns-5 c = rw (c .before .before .match .keys5) (c .index5 .ensures .0 ∙ c .before .word-at5 .ensures)
+
+returns-6 : tie.Need-returns-6
+unfolding variableSize
+returns-6 c = rw (ne-eqb _ _ (c .match .rest .0 .0 .0 .0 .1), ne-eqb _ _ (c .match .rest .0 .0 .0 .1), ne-eqb _ _ (c .match .rest .0 .0 .1), ne-eqb _ _ (c .match .rest .0 .1), ne-eqb _ _ (c .match .rest .1))
 
 pub variable-size-spec : {M : Type 1} → statement M
 variable-size-spec =
@@ -61,8 +71,11 @@ variable-size-spec =
     index-requires-3
     word-at-requires-4
     index-requires-4
+    word-at-requires-5
+    index-requires-5
     returns
     returns-2
     returns-3
     returns-4
-    returns-5)
+    returns-5
+    returns-6)
