@@ -89,7 +89,7 @@ impl<F: FnMut(&Traffic) -> bool> Shrinker<F> {
         }
     }
 
-    /// Fewer ticks in one record, zeros for data.
+    /// Fewer ticks in one record, zeros for data, for requester ID and tag.
     fn simplify(&mut self, best: &mut Traffic) {
         for index in 0..best.events.len() {
             for simpler in simpler_events(&best.events[index]) {
@@ -125,6 +125,12 @@ fn simpler_events(event: &Event) -> Vec<Event> {
                 store: *store,
                 bytes: plain,
             }]
+        }
+        // A sound message stays sound without requester ID and tag.
+        Event::Message { bytes } if bytes.len() > 6 => {
+            let mut plain = bytes.clone();
+            plain[4..7].fill(0);
+            vec![Event::Message { bytes: plain }]
         }
         _ => Vec::new(),
     }

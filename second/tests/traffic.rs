@@ -156,13 +156,14 @@ fn every_cut_of_a_list_is_told_with_its_place() {
 
 #[test]
 fn damage_is_told_with_its_place() {
-    let cases: [(usize, u8, &str); 15] = [
+    let cases: [(usize, u8, &str); 16] = [
         (0, 0, "damaged header at 0"),
         (7, 0, "damaged header at 0"),
         (7, 3, "damaged header at 0"),
         (181, 1, "damaged header at 0"),
         (184, 0, "damaged event 0 at 184"),
-        (184, 13, "damaged event 0 at 184"),
+        (184, 13, "damaged event 0 at 184"), // a message of 32,768 bytes
+        (184, 14, "damaged event 0 at 184"),
         (184, 254, "damaged event 0 at 184"),
         (188, 1, "damaged event 0 at 184"), // a store longer than the file's
         (189, 2, "damaged event 0 at 184"), // a flag

@@ -202,18 +202,18 @@ unfolding localRead status
 shown-is-all r q hr hq e k =
     record-same r q
     (small-same (r .primary) (q .primary) (hr .primary) (hq .primary)
-    (sym (byte-0 (r .primary) (r .secondary) (r .subordinate)) ∙ (ap (λ (w : ℕ). byte w 0) (e 0x018) ∙ byte-0 (q .primary) (q .secondary) (q .subordinate))))
+    (sym (byte-0 (r .primary) (r .secondary) (r .subordinate)) ∙ (ap (λ (w : ℕ). byte w 0) (e .buses) ∙ byte-0 (q .primary) (q .secondary) (q .subordinate))))
     (small-same (r .secondary) (q .secondary) (hr .secondary) (hq .secondary)
-    (sym (byte-1 (r .primary) (r .secondary) (r .subordinate)) ∙ (ap (λ (w : ℕ). byte w 1) (e 0x018) ∙ byte-1 (q .primary) (q .secondary) (q .subordinate))))
+    (sym (byte-1 (r .primary) (r .secondary) (r .subordinate)) ∙ (ap (λ (w : ℕ). byte w 1) (e .buses) ∙ byte-1 (q .primary) (q .secondary) (q .subordinate))))
     (small-same (r .subordinate) (q .subordinate) (hr .subordinate) (hq .subordinate)
-    (sym (byte-2 (r .primary) (r .secondary) (r .subordinate)) ∙ (ap (λ (w : ℕ). byte w 2) (e 0x018) ∙ byte-2 (q .primary) (q .secondary) (q .subordinate))))
-    (flag-same 255 (r .disable) (q .disable) (e 0x134))
-    (word-same (r .decode) (q .decode) (hr .decode) (hq .decode) (e 0x138))
-    (word-same (r .mask) (q .mask) (hr .mask) (hq .mask) (e 0x13C))
-    (flag-same 2047 (r .link) (q .link) (e 0x144))
+    (sym (byte-2 (r .primary) (r .secondary) (r .subordinate)) ∙ (ap (λ (w : ℕ). byte w 2) (e .buses) ∙ byte-2 (q .primary) (q .secondary) (q .subordinate))))
+    (flag-same 255 (r .disable) (q .disable) (e .disable))
+    (word-same (r .decode) (q .decode) (hr .decode) (hq .decode) (e .decode))
+    (word-same (r .mask) (q .mask) (hr .mask) (hq .mask) (e .mask))
+    (flag-same 2047 (r .link) (q .link) (e .link))
     k
     (overflow-same (isEmpty (r .errors)) (r .overflow) (q .overflow)
-    (e statusControl ∙ ap (λ (l : List ℕ). cond (isEmpty l) 0 (2 ^ 16) + cond (q .overflow) (2 ^ 17) 0) (sym k)))
+    (e .status ∙ ap (λ (l : List ℕ). cond (isEmpty l) 0 (2 ^ 16) + cond (q .overflow) (2 ^ 17) 0) (sym k)))
 
 -- ---- the line
 

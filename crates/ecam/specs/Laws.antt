@@ -239,10 +239,19 @@ ReadRest =
     → (w ≡ errorFifoRead → ⊥)
     → localRead r w ≡ 0
 
--- the words and the queued messages are all that a run's registers keep: what reads alike, with equal queues, is alike
+-- the words that show registers
+pub record SameWords (r q : Registers) : Type 0 where
+  pub buses : localRead r 0x018 ≡ localRead q 0x018
+  pub disable : localRead r 0x134 ≡ localRead q 0x134
+  pub decode : localRead r 0x138 ≡ localRead q 0x138
+  pub mask : localRead r 0x13C ≡ localRead q 0x13C
+  pub link : localRead r 0x144 ≡ localRead q 0x144
+  pub status : localRead r statusControl ≡ localRead q statusControl
+  pub fifo : localRead r errorFifoRead ≡ localRead q errorFifoRead
+
+-- with the queued messages they are all that a run's registers keep: what reads alike, with equal queues, is alike
 abbrev pub ShownIsAll : Type 0
-ShownIsAll =
-    (r q : Registers) → Held r → Held q → ((v : ℕ) → localRead r v ≡ localRead q v) → r .errors ≡ q .errors → r ≡ q
+ShownIsAll = (r q : Registers) → Held r → Held q → SameWords r q → r .errors ≡ q .errors → r ≡ q
 
 -- ---- the line
 

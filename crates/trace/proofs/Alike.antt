@@ -9,3 +9,4 @@ pub mod Reads
 pub mod Answers
 pub mod Steps
 pub mod Alike
+pub mod Shown

@@ -115,11 +115,11 @@ read-ends ends =
 -- ---- two bridges left alike
 
 -- a fact of each number below n
-abbrev Each : (ℕ → Type 0) → ℕ → Type 0
+abbrev pub Each : (ℕ → Type 0) → ℕ → Type 0
 Each P zero = Unit
 Each P (suc n) = P 0 × Each (λ k. P (suc k)) n
 
-each-below : (P : ℕ → Type 0) (n : ℕ) → Each P n → (k : ℕ) → k < n → P k
+pub each-below : (P : ℕ → Type 0) (n : ℕ) → Each P n → (k : ℕ) → k < n → P k
 each-below P zero all k lt = absurd (omega arith)
 each-below P (suc n) (p, all) zero lt = p
 each-below P (suc n) (p, all) (suc k) lt = each-below (λ i. P (suc i)) n all k (le-of-suc-le-suc lt)

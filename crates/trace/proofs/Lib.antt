@@ -11,4 +11,5 @@ pub mod Methods
 pub mod Prefix
 pub mod Example
 pub mod Applied
+pub mod QueueNeeded
 pub mod Demand3

@@ -11,3 +11,4 @@ pub mod Dropping
 pub mod Rooms
 pub mod Ticking
 pub mod Sound
+pub mod Registers

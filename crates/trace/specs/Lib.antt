@@ -3,6 +3,7 @@ pub mod FarSide
 pub mod Sent
 pub mod Claims
 pub mod Sound
+pub mod Registers
 pub mod Finished
 pub mod FirstFailure
 pub mod Methods

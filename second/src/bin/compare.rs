@@ -1,7 +1,8 @@
 //! `compare PLAYER SEED_FROM SEED_TO [EVENTS]` plays generated seeds, valid and
 //! damaged, and the files at the edges of the format on this program and on
-//! another player; it fails with the first difference and keeps the file. Exit status: 0 equal, 1 different, 2 trouble,
-//! such as a player whose log is not whole.
+//! another player; it fails with the first difference and keeps the file. Exit
+//! status: 0 equal, 1 different, 2 trouble, such as a player whose log is not
+//! whole.
 use second::generate::{damage, edges, traffic, DEFAULT_EVENTS};
 use second::run::{log_of, own_log};
 use second::say;
@@ -24,8 +25,8 @@ fn main() {
         let damaged = damage(&bytes, seed);
         lines += compare(player, &format!("seed-{seed}-damaged"), &damaged);
     }
-    for (name, traffic) in edges() {
-        compare(player, name, &traffic.encode());
+    for (name, bytes) in edges() {
+        compare(player, name, &bytes);
     }
     say!("{} seeds, {lines} lines, 0 differences", to - from + 1);
 }

@@ -1,6 +1,7 @@
 //! Configuration accesses and the local words (01, "Configuration space").
 
-use super::{Bridge, ConfigSlot, Owner, Piece, AREA_BYTES, CONFIG_SLOT, DECODE_BITS};
+use super::words::*;
+use super::{Bridge, ConfigSlot, Owner, Piece, AREA_BYTES, CONFIG_SLOT};
 use crate::answer::{Answer, Response};
 use crate::header::{request_bytes, Request, Target};
 use crate::settings::PcieAddress;
@@ -149,12 +150,14 @@ impl Bridge {
     /// What a local word reads; "Everything else reads 0".
     pub(super) fn local_word(&self, offset: u32) -> u32 {
         match offset {
-            0x018 => self.primary | self.secondary << 8 | self.subordinate << 16,
-            0x130 => 0x0000_000B,
-            0x134 => u32::from(self.line_off) << 8,
-            0x138 => self.decode,
-            0x13C => self.mask,
-            0x144 => u32::from(self.link_up) << 11,
+            WORD_BUSES => self.primary | self.secondary << 8 | self.subordinate << 16,
+            WORD_INFO => 0x0000_000B,
+            WORD_DISABLE if self.line_off => LINE_OFF,
+            WORD_DECODE => self.decode,
+            WORD_MASK => self.mask,
+            WORD_LINK if self.link_up => LINK_UP,
+            WORD_STATUS => self.errors.status(),
+            WORD_ERRORS => self.errors.oldest(),
             _ => 0,
         }
     }
@@ -164,15 +167,19 @@ impl Bridge {
         let chosen = strobed_bits(strobes);
         let mixed = self.local_word(offset) & !chosen | data & chosen;
         match offset {
-            0x018 => {
+            WORD_BUSES => {
                 self.primary = mixed & 0xFF;
                 self.secondary = mixed >> 8 & 0xFF;
                 self.subordinate = mixed >> 16 & 0xFF;
             }
-            0x134 => self.line_off = mixed & 1 << 8 != 0,
+            WORD_DISABLE => self.line_off = mixed & LINE_OFF != 0,
             // "cleared by writing one"
-            0x138 => self.decode &= !(data & chosen),
-            0x13C => self.mask = mixed & DECODE_BITS,
+            WORD_DECODE => self.decode &= !(data & chosen & self.clearable()),
+            WORD_MASK => self.mask = mixed & DECODE_BITS,
+            WORD_STATUS => self.errors.write_status(data & chosen),
+            // "any write there removes the oldest entry": any data and any
+            // strobes, also none.
+            WORD_ERRORS => self.errors.remove_oldest(),
             _ => {}
         }
     }

@@ -2,11 +2,15 @@
 
 mod complete;
 mod config;
+mod errors;
 mod memory;
 mod take;
 mod time;
+mod words;
 
 pub use config::Access;
+pub use errors::{ErrorQueue, QUEUE_DEPTH};
+pub use words::*;
 
 use crate::settings::{PcieAddress, Settings, Window};
 
@@ -19,18 +23,6 @@ pub const SLOT_BYTES: usize = 4096;
 pub const STORE_BYTES: usize = 32_768;
 /// "The lent sending area must hold 4,608 bytes."
 pub const AREA_BYTES: usize = 4608;
-
-/// The bits of word 138 that exist: 0, 8, 20 to 25.
-pub const DECODE_BITS: u32 = 1 | 1 << 8 | 0x3F << 20;
-
-pub const BIT_LINK_DOWN: u32 = 0;
-pub const BIT_CONFIG_TIMEOUT: u32 = 8;
-pub const BIT_UR: u32 = 20;
-pub const BIT_UNEXPECTED: u32 = 21;
-pub const BIT_TIMEOUT: u32 = 22;
-pub const BIT_POISON: u32 = 23;
-pub const BIT_CA: u32 = 24;
-pub const BIT_BURST: u32 = 25;
 
 /// Whose request a piece is.
 #[derive(Clone, Copy, Debug, PartialEq, Eq)]
@@ -95,6 +87,7 @@ pub struct Bridge {
     decode: u32,
     mask: u32,
     link_up: bool,
+    errors: ErrorQueue,
     now: u32,
     pieces: Vec<Piece>,
     reads: Vec<Read>,
@@ -143,6 +136,7 @@ impl Bridge {
             decode: 0,
             mask: 0,
             link_up: false,
+            errors: ErrorQueue::default(),
             now: 0,
             pieces: Vec::new(),
             reads: Vec::new(),
@@ -156,9 +150,15 @@ impl Bridge {
         self.now = value;
     }
 
-    /// Words 018, 134, 138, 13C and 144.
-    pub fn registers(&self) -> [u32; 5] {
-        [0x018, 0x134, 0x138, 0x13C, 0x144].map(|offset| self.local_word(offset))
+    /// Words 018, 134, 138, 13C, 144, 148 and 154.
+    pub fn registers(&self) -> [u32; 7] {
+        REGISTERS.map(|offset| self.local_word(offset))
+    }
+
+    /// What demand 3 calls registers holds the whole queue too, of which word
+    /// 154 shows the oldest entry only.
+    pub fn errors(&self) -> &ErrorQueue {
+        &self.errors
     }
 
     /// "The line is high when decode and mask share a bit and bit 8 of 134 is

@@ -2,6 +2,7 @@
 
 use crate::bridge::{Bridge, Owner, Piece};
 use crate::header::{read_completion, Completion, Request, Target};
+use crate::header::{CODE_CORRECTABLE, CODE_FATAL, CODE_NON_FATAL, MESSAGE_FIRST};
 use crate::settings::{AxiAddress, Settings, Window};
 
 /// Every rule of 01 that these settings break.
@@ -200,5 +201,65 @@ pub fn completion_value(value: &Completion) -> &'static str {
         "lower address"
     } else {
         "shape"
+    }
+}
+
+/// What can be wrong with an error message.
+pub const MESSAGE_FLAWS: [&str; 23] = [
+    "no byte",
+    "1 to 14 bytes",
+    "15 bytes",
+    "17 bytes",
+    "18 bytes or more",
+    "first byte 34",
+    "another first byte",
+    "code 32",
+    "code 2F",
+    "code 34",
+    "code 20",
+    "another code",
+    "byte 1",
+    "byte 2",
+    "byte 3",
+    "byte 8",
+    "byte 9",
+    "byte 10",
+    "byte 11",
+    "byte 12",
+    "byte 13",
+    "byte 14",
+    "byte 15",
+];
+
+/// What is wrong with an error message; nothing where it is more than one thing,
+/// so that each flaw is tried alone.
+pub fn message_flaw(bytes: &[u8]) -> Option<String> {
+    let length = match bytes.len() {
+        0 => Some("no byte"),
+        1..=14 => Some("1 to 14 bytes"),
+        15 => Some("15 bytes"),
+        16 => None,
+        17 => Some("17 bytes"),
+        _ => Some("18 bytes or more"),
+    };
+    let places = bytes.iter().enumerate();
+    let mut flaws: Vec<String> = places.filter_map(|(i, b)| byte_flaw(i, *b)).collect();
+    flaws.extend(length.map(String::from));
+    match flaws.len() {
+        1 => flaws.pop(),
+        _ => None,
+    }
+}
+
+fn byte_flaw(place: usize, byte: u8) -> Option<String> {
+    match (place, byte) {
+        (0, MESSAGE_FIRST) | (4..=6, _) => None,
+        (0, 0x34) => Some("first byte 34".to_string()),
+        (0, _) => Some("another first byte".to_string()),
+        (7, CODE_CORRECTABLE | CODE_NON_FATAL | CODE_FATAL) => None,
+        (7, 0x32 | 0x2F | 0x34 | 0x20) => Some(format!("code {byte:02X}")),
+        (7, _) => Some("another code".to_string()),
+        (_, 0) => None,
+        _ => Some(format!("byte {place}")),
     }
 }

@@ -2,6 +2,7 @@
 //! list of named points.
 
 mod classify;
+mod errors;
 mod observe;
 mod points;
 
@@ -10,7 +11,7 @@ use crate::traffic::{Machine, Traffic};
 use std::collections::{BTreeMap, BTreeSet};
 
 /// The numbers that each kind of event can give.
-pub const REACHABLE: [(&str, &[u32]); 13] = [
+pub const REACHABLE: [(&str, &[u32]); 14] = [
     ("new", &[0, 1]),
     ("read", &[0, 2, 3, 4, 5, 6, 7, 8]),
     ("write", &[0, 2, 3, 4, 8, 15]),
@@ -24,6 +25,7 @@ pub const REACHABLE: [(&str, &[u32]); 13] = [
     ("request-reader", &[0, 12]),
     ("completion-writer", &[0, 8, 12]),
     ("completion-reader", &[0, 12]),
+    ("message", &[0, 4, 12]),
 ];
 
 #[derive(Default)]
@@ -42,6 +44,10 @@ struct Memory {
     rested: BTreeSet<u32>,
     /// Open tags for which a completion was ahead of the missing bytes.
     ahead: BTreeSet<u32>,
+    /// The link went down with messages queued, and none came since.
+    kept: bool,
+    /// How many messages were removed.
+    removed: usize,
 }
 
 impl Coverage {

@@ -1,6 +1,6 @@
 //! Watches one event: the bridge before, the answer, the machine after.
 
-use super::points::{BITS, LOCAL_WORDS};
+use super::points::{local_words, BITS};
 use super::{classify, Coverage, Memory};
 use crate::answer::{Answer, Response};
 use crate::bridge::{Access, Bridge, Cause, ConfigSlot, Owner, Piece, CONFIG_SLOT};
@@ -58,6 +58,7 @@ impl Coverage {
             }
             (Event::Config { access, .. }, Outcome::Call(answer)) => {
                 self.config(before, access, answer, machine);
+                self.error_words(before, access, answer, memory);
             }
             (Event::Completion { bytes, .. }, Outcome::Call(answer)) => {
                 self.completion(before, bytes, answer, memory);
@@ -67,6 +68,10 @@ impl Coverage {
             }
             (Event::Link { up, .. }, Outcome::Call(answer)) if answer.number == 0 => {
                 self.link(before, *up);
+                self.queue_over_link(before, *up, memory);
+            }
+            (Event::Message { bytes }, Outcome::Call(answer)) => {
+                self.message(before, bytes, answer.number, after, memory);
             }
             (Event::Look { slot, .. }, Outcome::Look { number: 0, part }) => {
                 self.look(*slot, part.len());
@@ -77,6 +82,7 @@ impl Coverage {
             _ => self.header_call(event, outcome),
         }
         self.changes(before, event, after);
+        self.error_line(after);
         self.tags(before, after, memory);
     }
 
@@ -150,7 +156,7 @@ impl Coverage {
             return;
         }
         let word = access.offset as u32 & 0xFFC;
-        let name = match LOCAL_WORDS.contains(&word) {
+        let name = match local_words().contains(&word) {
             true => format!("{word:03X}"),
             false => "others".to_string(),
         };

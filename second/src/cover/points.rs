@@ -1,5 +1,8 @@
 //! The points that a run must reach.
 
+use super::errors;
+use crate::bridge::{REGISTERS, WORD_INFO};
+
 const PLAIN: &str = "
 settings: count below 1
 settings: count above 6
@@ -129,9 +132,11 @@ completion writer: lower address
 ";
 
 /// The words of the local space that do something.
-pub const LOCAL_WORDS: [u32; 6] = [0x018, 0x130, 0x134, 0x138, 0x13C, 0x144];
+pub fn local_words() -> Vec<u32> {
+    [&[WORD_INFO], &REGISTERS[..]].concat()
+}
 
-pub const BITS: [u32; 8] = [0, 8, 20, 21, 22, 23, 24, 25];
+pub const BITS: [u32; 11] = [0, 8, 9, 10, 11, 20, 21, 22, 23, 24, 25];
 
 pub fn required() -> Vec<String> {
     let mut list: Vec<String> = PLAIN
@@ -175,7 +180,7 @@ pub fn required() -> Vec<String> {
         add(format!("made from {way}: 0"));
         add(format!("made from {way}: 1"));
     }
-    for word in LOCAL_WORDS {
+    for word in local_words() {
         add(format!("config: local read of {word:03X}"));
         add(format!("config: local write of {word:03X}"));
     }
@@ -187,5 +192,6 @@ pub fn required() -> Vec<String> {
     for bits in 1..9 {
         add(format!("config: routed, {bits} bus bits"));
     }
+    list.extend(errors::required());
     list
 }

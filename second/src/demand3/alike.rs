@@ -1,10 +1,41 @@
 //! Two histories that end alike are answered alike.
 
 use super::{Counterexample, Figures};
-use crate::bridge::CONFIG_SLOT;
+use crate::bridge::{Bridge, CONFIG_SLOT, OVERFLOW, QUEUE_DEPTH};
+use crate::bridge::{WORD_BUSES, WORD_DECODE, WORD_DISABLE, WORD_MASK, WORD_STATUS};
+use crate::generate::messages::{sound, CODES};
 use crate::generate::{lawful_settings, Generator, Random};
 use crate::settings::Settings;
 use crate::traffic::{Event, Header, Machine, Making, Outcome};
+
+/// How two histories end: what the registers shall hold.
+struct End {
+    words: [u32; 3],
+    /// What is queued, more than the queue holds now and then.
+    messages: Vec<Vec<u8>>,
+    /// Whether the flag is cleared after that.
+    clear_flag: bool,
+}
+
+impl End {
+    fn any(random: &mut Random) -> End {
+        let words = [random.word(), random.word() & 0x100, random.word()];
+        let count = match random.below(6) {
+            0 => 0,
+            1 => random.between(QUEUE_DEPTH as u32 - 1, QUEUE_DEPTH as u32 + 2),
+            _ => random.between(1, 6),
+        };
+        let message = |_| {
+            let code = random.pick(&CODES);
+            sound(code, random)
+        };
+        End {
+            words,
+            messages: (0..count).map(message).collect(),
+            clear_flag: random.chance(50),
+        }
+    }
+}
 
 /// One trial: two bridges with any past, brought to equal registers, a link that
 /// is down and free slots; then the same events on both.
@@ -13,9 +44,9 @@ pub fn alike(seed: u64, events: usize) -> Result<Figures, Counterexample> {
     let settings = lawful_settings(seed, &mut random);
     let mut one = history(&settings, &mut random);
     let mut other = history(&settings, &mut random);
-    let words = [random.word(), random.word() & 0x100, random.word()];
-    end_history(&mut one, &words);
-    end_history(&mut other, &words);
+    let end = End::any(&mut random);
+    end_history(&mut one, &end);
+    end_history(&mut other, &end);
     if words_are_lost(&one.machine) || words_are_lost(&other.machine) {
         return Ok(Figures::default());
     }
@@ -50,16 +81,35 @@ fn history(settings: &Settings, random: &mut Random) -> Generator {
     generator
 }
 
-/// The link goes down, every slot is taken, the registers get their values.
-fn end_history(generator: &mut Generator, words: &[u32; 3]) {
+/// The link goes down, every slot is taken, the queue is emptied and filled
+/// anew, the registers get their values.
+fn end_history(generator: &mut Generator, end: &End) {
     generator.link(true);
     generator.link(false);
     generator.release_all();
-    generator.local_write(0x134, words[1]);
-    generator.local_write(0x13C, words[2]);
-    generator.local_write(0x138, u32::MAX);
+    // A removal may be refused, so there are more than entries.
+    generator.remove_all(4 * QUEUE_DEPTH);
+    generator.local_write(WORD_DECODE, u32::MAX);
+    generator.local_write(WORD_STATUS, OVERFLOW);
+    generator.link(true);
+    for bytes in &end.messages {
+        let bytes = bytes.clone();
+        generator.push(Event::Message { bytes });
+    }
+    generator.link(false);
+    if end.clear_flag {
+        generator.local_write(WORD_STATUS, u32::MAX);
+    }
+    generator.local_write(WORD_DISABLE, end.words[1]);
+    generator.local_write(WORD_MASK, end.words[2]);
+    generator.local_write(WORD_DECODE, u32::MAX);
     let most = (1 << generator.machine.bridge.settings().bus_bits) - 1;
-    generator.local_write(0x018, words[0] & (0x00FF_FF00 | most));
+    generator.local_write(WORD_BUSES, end.words[0] & (0x00FF_FF00 | most));
+}
+
+/// "equal registers": the words and the whole list of queued messages.
+fn equal_registers(one: &Bridge, other: &Bridge) -> bool {
+    one.registers() == other.registers() && one.errors().entries() == other.errors().entries()
 }
 
 /// A primary bus of 2^n or more: no offset reaches the local words, so the
@@ -72,7 +122,7 @@ fn words_are_lost(machine: &Machine) -> bool {
 fn equal_start(one: &Machine, other: &Machine) -> Result<(), String> {
     let free = |m: &Machine| (0..=CONFIG_SLOT).all(|s| m.bridge.look(s, &m.store).0 == 14);
     let down = !one.bridge.link_is_up() && !other.bridge.link_is_up();
-    let equal = one.bridge.registers() == other.bridge.registers();
+    let equal = equal_registers(&one.bridge, &other.bridge);
     match down && equal && free(one) && free(other) {
         true => Ok(()),
         false => Err("the trial itself: the histories do not end alike".to_string()),
@@ -88,17 +138,23 @@ fn later(
 ) -> Result<(), String> {
     let from = one.events.len();
     let mut shadow = one.machine.clone();
+    let queued = shadow.bridge.errors().entries().len() as u64;
+    figures.alike_pairs += 1;
+    figures.alike_pairs_queued += u64::from(queued > 1);
     one.opening();
     while one.events.len() < from + events {
         one.step();
     }
     for event in &one.events[from..] {
+        let before = shadow.bridge.errors().entries().len();
         let left = shadow.play(&lent(event, &shadow));
         let right = other.machine.play(&lent(event, &other.machine));
         compare(event, (&left, &shadow), (&right, &other.machine))?;
         figures.alike_events += 1;
         let read = matches!(event, Event::Read { .. }) && left.number() == 0;
         figures.alike_reads += u64::from(read);
+        let after = shadow.bridge.errors().entries().len();
+        figures.alike_removed += before.saturating_sub(after) as u64;
     }
     Ok(())
 }
@@ -128,10 +184,10 @@ fn compare(
         Outcome::Call(answer) => machine.area[..answer.sent as usize].to_vec(),
         _ => Vec::new(),
     };
-    let registers = |machine: &Machine| (machine.bridge.registers(), machine.bridge.line());
     let same = left.0 == right.0
         && sent(left.0, left.1) == sent(right.0, right.1)
-        && registers(left.1) == registers(right.1);
+        && left.1.bridge.line() == right.1.bridge.line()
+        && equal_registers(&left.1.bridge, &right.1.bridge);
     match same {
         true => Ok(()),
         false => Err(format!(

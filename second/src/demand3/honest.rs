@@ -8,7 +8,7 @@ use crate::answer::Answer;
 use crate::bridge::{Bridge, ConfigSlot, CONFIG_SLOT};
 use crate::burst::Burst;
 use crate::generate::far::{headers, Kind, Owed};
-use crate::generate::{bursts, configs, header_damage, lawful_settings, Random};
+use crate::generate::{bursts, configs, header_damage, lawful_settings, messages, Random};
 use crate::traffic::{Event, Header, Machine, Making, Outcome};
 use std::collections::BTreeSet;
 
@@ -93,7 +93,7 @@ impl World {
             true => (limit.min(40) + 2, 30),
             false => (limit.min(40) / 4 + 1, 46),
         };
-        let weights = [16, 4, 7, 3, answers, 4, ticks, 1, 18, 3];
+        let weights = [16, 4, 7, 5, answers, 4, ticks, 1, 18, 3, 3];
         match self.random.weighted(&weights) {
             0 => self.read(),
             1 => self.write(),
@@ -107,7 +107,8 @@ impl World {
             6 => self.tick(),
             7 => self.link(),
             8 => self.take(),
-            _ => self.malformed(),
+            9 => self.malformed(),
+            _ => self.message(),
         }
     }
 
@@ -143,11 +144,15 @@ impl World {
                 self.figures.configs += 1;
                 self.requests(answer, None);
             }
+            Event::Message { .. } => self.figures.messages += 1,
             Event::Tick { .. } => self.claims.tick(self.bridge().settings().time_limit),
             Event::Link { up: false, .. } => self.note_drop(before),
             Event::Release { slot, .. } => self.claims.released(*slot, answer, &self.sent)?,
             _ => {}
         }
+        let queued = |bridge: &Bridge| bridge.errors().entries().len();
+        let fewer = queued(before).saturating_sub(queued(self.bridge()));
+        self.figures.removed += fewer as u64;
         let resting = self.bridge().resting().len();
         let more = resting.saturating_sub(before.resting().len());
         self.figures.timeouts += more as u64;
@@ -210,12 +215,15 @@ impl World {
     }
 
     fn local(&mut self) -> Result<(), String> {
-        let access = configs::local(&self.machine.bridge, &mut self.random);
+        let access = match self.random.below(3) {
+            0 => configs::removal(&self.machine.bridge, &mut self.random),
+            _ => configs::local(&self.machine.bridge, &mut self.random),
+        };
         self.play(Event::Config { access, area: 4608 }).map(drop)
     }
 
     fn local_write(&mut self, word: u32, data: u32) -> Result<(), String> {
-        let access = configs::local_write(&self.machine.bridge, word, data);
+        let access = configs::local_write(&self.machine.bridge, word, data, 15);
         self.play(Event::Config { access, area: 4608 })?;
         self.release(CONFIG_SLOT)
     }
@@ -322,6 +330,12 @@ impl World {
         }
         let slot = self.random.pick(&slots);
         self.release(slot)
+    }
+
+    /// Error messages may come at any time.
+    fn message(&mut self) -> Result<(), String> {
+        let bytes = messages::any(&mut self.random);
+        self.play(Event::Message { bytes }).map(drop)
     }
 
     /// Malformed completions may come at any time.

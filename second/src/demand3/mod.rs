@@ -29,6 +29,12 @@ pub struct Figures {
     pub unexpected: u64,
     pub drops: u64,
     pub reused_tags: u64,
+    pub messages: u64,
+    pub removed: u64,
+    pub alike_pairs: u64,
+    /// Pairs that begin with two messages or more, which word 154 does not show.
+    pub alike_pairs_queued: u64,
+    pub alike_removed: u64,
     pub alike_events: u64,
     pub alike_reads: u64,
 }
@@ -48,12 +54,17 @@ impl Figures {
         self.unexpected += other.unexpected;
         self.drops += other.drops;
         self.reused_tags += other.reused_tags;
+        self.messages += other.messages;
+        self.removed += other.removed;
+        self.alike_pairs += other.alike_pairs;
+        self.alike_pairs_queued += other.alike_pairs_queued;
+        self.alike_removed += other.alike_removed;
         self.alike_events += other.alike_events;
         self.alike_reads += other.alike_reads;
     }
 
     /// Every figure with its name.
-    pub fn list(&self) -> [(&'static str, u64); 15] {
+    pub fn list(&self) -> [(&'static str, u64); 20] {
         [
             ("events with an honest far side", self.events),
             ("accepted memory reads", self.reads),
@@ -68,8 +79,13 @@ impl Figures {
             ("completions not expected", self.unexpected),
             ("link drops", self.drops),
             ("tags used again", self.reused_tags),
+            ("error messages accepted", self.messages),
+            ("of them removed again", self.removed),
+            ("pairs of bridges for alike", self.alike_pairs),
+            ("of them with two messages or more", self.alike_pairs_queued),
             ("events compared for alike", self.alike_events),
             ("reads accepted among them", self.alike_reads),
+            ("messages removed among them", self.alike_removed),
         ]
     }
 }

@@ -1,7 +1,7 @@
 //! Configuration accesses, local and routed.
 
 use super::Random;
-use crate::bridge::{Access, Bridge};
+use crate::bridge::{Access, Bridge, REGISTERS, WORD_BUSES, WORD_ERRORS, WORD_INFO};
 
 /// Bus numbers that make sense: primary 0, a range above it.
 pub fn bus_numbers(bridge: &Bridge, random: &mut Random) -> u32 {
@@ -24,38 +24,73 @@ pub fn bus_numbers(bridge: &Bridge, random: &mut Random) -> u32 {
 
 /// An access to a local word; the primary bus must be reachable.
 pub fn local(bridge: &Bridge, random: &mut Random) -> Access {
-    let words = [0x018, 0x130, 0x134, 0x138, 0x13C, 0x144];
-    let word = match random.below(10) {
+    let word = match random.below(12) {
         0 => random.between(0, 1023) * 4,
-        1 => random.pick(&[0x000, 0x140, 0x148, 0x154]),
-        _ => random.pick(&words),
+        // Beside 148 and 154, and words that show nothing.
+        1 => random.pick(&[0x000, 0x140, 0x14C, 0x150, 0x158]),
+        2 => WORD_INFO,
+        _ => random.pick(&REGISTERS),
     };
-    let primary = bridge.registers()[0] & 0xFF;
-    let device = match random.below(4) {
-        0 => random.between(0, 255),
-        _ => 0,
-    };
-    let offset = primary << 20 | device << 12 | word | random.between(0, 3);
     let write = random.chance(55);
     Access {
-        offset: u64::from(offset),
+        offset: any_device(bridge, word, random),
         write,
         data: match word {
-            0x018 if write => bus_numbers(bridge, random),
+            WORD_BUSES if write => bus_numbers(bridge, random),
             _ => word_data(random),
         },
         strobes: strobes(random),
     }
 }
 
-/// The write that sets all of a local word.
-pub fn local_write(bridge: &Bridge, word: u32, data: u32) -> Access {
+/// A local word by any device and function, and any low two bits.
+fn any_device(bridge: &Bridge, word: u32, random: &mut Random) -> u64 {
+    let device = match random.below(4) {
+        0 => random.between(0, 255),
+        _ => 0,
+    };
+    place(bridge, device << 12 | word | random.between(0, 3))
+}
+
+/// On the primary bus.
+fn place(bridge: &Bridge, offset: u32) -> u64 {
     let primary = bridge.registers()[0] & 0xFF;
+    u64::from(primary << 20 | offset)
+}
+
+pub fn local_write(bridge: &Bridge, word: u32, data: u32, strobes: u32) -> Access {
     Access {
-        offset: u64::from(primary << 20 | word),
+        offset: place(bridge, word),
         write: true,
         data,
-        strobes: 15,
+        strobes,
+    }
+}
+
+pub fn local_read(bridge: &Bridge, word: u32) -> Access {
+    Access {
+        offset: place(bridge, word),
+        write: false,
+        data: 0,
+        strobes: 0,
+    }
+}
+
+/// A write to the queue's word: data and strobes do not matter. Seldom past the
+/// end of the space, where it is refused.
+pub fn removal(bridge: &Bridge, random: &mut Random) -> Access {
+    let past = match random.below(20) {
+        0 => 1 << (20 + bridge.settings().bus_bits),
+        _ => 0,
+    };
+    Access {
+        offset: any_device(bridge, WORD_ERRORS, random) + past,
+        write: true,
+        data: word_data(random),
+        strobes: match random.below(3) {
+            0 => random.pick(&[0, 0, 16]),
+            _ => strobes(random),
+        },
     }
 }
 
@@ -73,7 +108,11 @@ pub fn routed(bridge: &Bridge, random: &mut Random) -> Access {
         0 => random.between(1, 31),
         _ => 0,
     };
-    let place = device << 15 | random.word() & 0x7FFF;
+    let word = match random.below(12) {
+        0 => WORD_ERRORS,
+        _ => random.word() & 0x7FFF,
+    };
+    let place = device << 15 | word;
     let offset = match random.below(25) {
         0 => random.long(),
         1 => 1 << random.between(20 + bridge.settings().bus_bits, 40),

@@ -128,10 +128,10 @@ fn request_bytes(random: &mut Random) -> Vec<u8> {
 
 fn damage_request(bytes: &mut Vec<u8>, random: &mut Random) {
     let config = bytes[0] & 4 != 0;
-    match random.below(12) {
-        11 if config => bytes[10] |= 0x10 << random.below(4),
+    match random.below(15) {
+        11 | 14 if config => bytes[10] |= 0x10 << random.below(4),
         9 => bytes[2] |= 0x40,
-        10 => bytes[3] = random.pick(&[0, 2, 3]),
+        10 | 13 => bytes[3] = random.pick(&[0, 2, 3]),
         0 => bytes[0] = random.word() as u8,
         1 => bytes[0] ^= 0x20,
         2 => bytes[1] |= 1 << random.below(8),
@@ -142,7 +142,7 @@ fn damage_request(bytes: &mut Vec<u8>, random: &mut Random) {
             let last = bytes.len() - 1;
             bytes[last] |= random.pick(&[1, 2, 3]);
         }
-        7 => bytes[8..].iter_mut().take(4).for_each(|b| *b = 0),
+        7 | 12 => bytes[8..].iter_mut().take(4).for_each(|b| *b = 0),
         _ => flip(bytes, random),
     }
 }

@@ -7,10 +7,14 @@ mod damage;
 mod edges;
 pub mod far;
 mod headers;
+mod locals;
+pub(crate) mod messages;
 mod odd;
+mod queue;
 mod random;
 mod scenes;
 mod settings;
+mod takes;
 
 pub use damage::damage;
 pub use edges::edges;
@@ -46,13 +50,13 @@ pub fn traffic(seed: u64, events: usize) -> Traffic {
 
 /// Weights of the actions, in the order of `Generator::act`: read, write,
 /// routed, local, answer, odd answer, loss, tick, link, take, odd take, header,
-/// scene.
-const MOODS: [[u32; 13]; 5] = [
-    [14, 8, 9, 6, 44, 3, 1, 4, 1, 14, 2, 4, 3],   // calm
-    [40, 4, 10, 2, 14, 3, 1, 2, 1, 4, 3, 2, 2],   // filling up
-    [4, 2, 3, 2, 60, 2, 1, 2, 1, 30, 2, 2, 2],    // emptying
-    [16, 4, 9, 4, 20, 18, 6, 10, 3, 12, 4, 2, 4], // stormy
-    [3, 3, 2, 2, 8, 2, 1, 2, 1, 4, 2, 50, 1],     // headers
+/// message, scene.
+const MOODS: [[u32; 14]; 5] = [
+    [14, 8, 9, 6, 44, 3, 1, 4, 1, 14, 2, 4, 2, 4],   // calm
+    [40, 4, 10, 2, 14, 3, 1, 2, 1, 4, 3, 2, 1, 3],   // filling up
+    [4, 2, 3, 2, 60, 2, 1, 2, 1, 30, 2, 2, 1, 3],    // emptying
+    [16, 4, 9, 4, 20, 18, 6, 10, 3, 12, 4, 2, 4, 5], // stormy
+    [3, 3, 2, 2, 8, 2, 1, 2, 1, 4, 2, 50, 5, 1],     // headers
 ];
 
 pub struct Generator {
@@ -132,8 +136,8 @@ impl Generator {
         let list = &self.far.live;
         if let Some(index) = list.iter().position(|o| o.kind != Kind::Memory) {
             match self.random.below(10) {
-                0..=5 => self.answer_request(index),
-                6 | 7 => self.fail(index),
+                0..=4 => self.answer_request(index),
+                5..=7 => self.fail(index),
                 8 => self.poison(index),
                 _ => {
                     let owed = self.far.live[index].clone();
@@ -179,6 +183,7 @@ impl Generator {
                 let event = headers::call(&mut self.random);
                 self.push(event);
             }
+            12 => self.some_message(),
             _ => self.scene(),
         }
     }
@@ -314,71 +319,5 @@ impl Generator {
             let words = owed.some_words(&mut self.random);
             self.far.advance(index, owed.useful(words));
         }
-    }
-
-    /// The slots in which something is finished.
-    fn finished_slots(&self) -> Vec<u32> {
-        let bridge = &self.machine.bridge;
-        let reads = bridge.reads().iter().filter(|r| r.finished.is_some());
-        let mut list: Vec<u32> = reads.map(|r| r.slot).collect();
-        if matches!(bridge.config_slot(), ConfigSlot::Finished(..)) {
-            list.push(CONFIG_SLOT);
-        }
-        list
-    }
-
-    fn take_finished(&mut self) {
-        let finished = self.finished_slots();
-        if finished.is_empty() {
-            return self.answer();
-        }
-        let slot = self.random.pick(&finished);
-        if self.random.chance(75) {
-            let store = self.store();
-            self.push(Event::Look { store, slot });
-        }
-        if self.random.chance(90) {
-            self.release(slot);
-        }
-    }
-
-    pub fn release(&mut self, slot: u32) {
-        let store = self.store();
-        self.push(Event::Release { store, slot });
-    }
-
-    pub fn release_all(&mut self) {
-        for slot in self.finished_slots() {
-            self.release(slot);
-        }
-    }
-
-    fn odd_take(&mut self) {
-        let any = self.random.word();
-        let slot = match self.random.below(8) {
-            0 => self.random.pick(&[9, 15, 16, 255, u32::MAX, any]),
-            _ => self.random.between(0, 8),
-        };
-        let whole = self.machine.store.len() as u32;
-        let store = match self.random.below(12) {
-            0 if !self.full => whole.min(32_767),
-            _ => self.store(),
-        };
-        match self.random.chance(60) {
-            true => self.push(Event::Look { store, slot }),
-            false => self.push(Event::Release { store, slot }),
-        };
-    }
-
-    pub fn set_buses(&mut self) {
-        let buses = configs::bus_numbers(&self.machine.bridge, &mut self.random);
-        self.local_write(0x018, buses);
-    }
-
-    /// Writes a local word and takes the answer.
-    pub fn local_write(&mut self, word: u32, data: u32) {
-        let access = configs::local_write(&self.machine.bridge, word, data);
-        self.config(access);
-        self.release(CONFIG_SLOT);
     }
 }

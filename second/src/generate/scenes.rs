@@ -2,13 +2,14 @@
 
 use super::{bursts, configs, Generator};
 use crate::bridge::{ConfigSlot, Owner, DECODE_BITS};
+use crate::bridge::{WORD_BUSES, WORD_DECODE, WORD_DISABLE, WORD_MASK};
 
 impl Generator {
     pub fn scene(&mut self) {
         if !self.machine.bridge.link_is_up() {
             self.link(true);
         }
-        match self.random.below(10) {
+        match self.random.below(14) {
             0 => self.everything_open_then_drop(),
             1 => self.whole_page(),
             2 => self.poison_then_failure(),
@@ -18,6 +19,10 @@ impl Generator {
             6 => self.resting_tag_and_page(),
             7 => self.registers(),
             8 => self.drop_and_return(),
+            9 => self.overflow(),
+            10 => self.queue_life(),
+            11 => self.broken_messages(),
+            12 => self.error_line(),
             _ => self.set_buses(),
         }
     }
@@ -43,7 +48,7 @@ impl Generator {
     fn everything_open_then_drop(&mut self) {
         self.link(false);
         self.release_all();
-        self.local_write(0x018, 0x00FF_0100);
+        self.local_write(WORD_BUSES, 0x00FF_0100);
         self.link(true);
         for _ in 0..9 {
             self.read_word();
@@ -180,12 +185,12 @@ impl Generator {
     /// The mask and the line, then decode bits cleared.
     fn registers(&mut self) {
         self.release(8);
-        self.local_write(0x13C, DECODE_BITS);
+        self.local_write(WORD_MASK, DECODE_BITS);
         let off = self.random.pick(&[0, 0, 0x100]);
-        self.local_write(0x134, off);
+        self.local_write(WORD_DISABLE, off);
         let any = self.random.word();
         let ones = self.random.pick(&[DECODE_BITS, u32::MAX, any]);
-        self.local_write(0x138, ones);
+        self.local_write(WORD_DECODE, ones);
     }
 
     /// A drop with whatever is open, sometimes with late answers after it.
@@ -201,7 +206,7 @@ impl Generator {
         }
         if self.random.chance(30) {
             self.release(8);
-            self.local_write(0x138, u32::MAX);
+            self.local_write(WORD_DECODE, u32::MAX);
             self.link(false);
         }
         self.link(true);

@@ -1,9 +1,12 @@
 //! Header values, their writers and readers (01, "Header bytes").
 
 mod completion;
+mod message;
 mod request;
 
 pub use completion::{read_completion, write_completion, Completion};
+pub use message::{read_message, Message, Severity};
+pub use message::{CODE_CORRECTABLE, CODE_FATAL, CODE_NON_FATAL, MESSAGE_BYTES, MESSAGE_FIRST};
 pub use request::{read_request, write_request, Request, Target};
 
 pub(crate) use request::request_bytes;

@@ -160,6 +160,9 @@ impl<'a> Decoder<'a> {
             KIND_COMPLETION_READER => Ok(Event::CompletionReader {
                 bytes: self.data()?,
             }),
+            KIND_MESSAGE => Ok(Event::Message {
+                bytes: self.data()?,
+            }),
             _ => Err(Wrong::Damaged),
         }
     }

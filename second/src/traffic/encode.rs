@@ -115,6 +115,10 @@ fn event(sink: &mut Sink, event: &Event) {
             sink.byte(KIND_RELEASE);
             sink.words(&[*store, *slot]);
         }
+        Event::Message { bytes } => {
+            sink.byte(KIND_MESSAGE);
+            sink.data(bytes);
+        }
         _ => header_call(sink, event),
     }
 }

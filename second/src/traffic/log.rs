@@ -80,12 +80,17 @@ fn look_part(part: &[u8]) -> String {
 }
 
 fn tail(machine: &Machine) -> String {
-    let [a, b, c, d, e] = machine.bridge.registers();
-    format!(
+    let [a, b, c, d, e, status, oldest] = machine.bridge.registers();
+    let mut text = format!(
         " regs {a:08x} {b:08x} {c:08x} {d:08x} {e:08x} line {} store {:08x}",
         u32::from(machine.bridge.line()),
         adler(&machine.store)
-    )
+    );
+    // Left out where both are 0, so that logs without messages stay as they were.
+    if (status, oldest) != (0, 0) {
+        let _ = write!(text, " errors {status:08x} {oldest:08x}");
+    }
+    text
 }
 
 fn request_part(value: &Request) -> String {

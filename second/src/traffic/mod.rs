@@ -42,6 +42,7 @@ pub const KIND_REQUEST_WRITER: u8 = 9;
 pub const KIND_REQUEST_READER: u8 = 10;
 pub const KIND_COMPLETION_WRITER: u8 = 11;
 pub const KIND_COMPLETION_READER: u8 = 12;
+pub const KIND_MESSAGE: u8 = 13;
 pub const KIND_END: u8 = 255;
 
 /// How the bridge is made.
@@ -113,6 +114,10 @@ pub enum Event {
     CompletionReader {
         bytes: Vec<u8>,
     },
+    /// Lent neither store nor area.
+    Message {
+        bytes: Vec<u8>,
+    },
 }
 
 impl Header {
@@ -145,6 +150,7 @@ impl Event {
             Event::RequestReader { .. } => "request-reader",
             Event::CompletionWriter { .. } => "completion-writer",
             Event::CompletionReader { .. } => "completion-reader",
+            Event::Message { .. } => "message",
         }
     }
 }

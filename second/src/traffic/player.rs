@@ -108,6 +108,7 @@ impl Machine {
             Event::Release { store, slot } => {
                 Outcome::Call(self.bridge.release(*slot, &self.store[..*store as usize]))
             }
+            Event::Message { bytes } => Outcome::Call(self.bridge.message(bytes)),
             _ => self.header_call(event),
         }
     }

@@ -97,6 +97,13 @@ impl Bench {
         assert_eq!(self.release(8).response, Response::Okay);
     }
 
+    /// A local write with these strobes.
+    pub fn strobed_write(&mut self, offset: u64, data: u32, strobes: u32) {
+        let accepted = self.config(offset, true, data, strobes);
+        assert_eq!(accepted, answer(0, Response::None, 8, 0, 0));
+        assert_eq!(self.release(8), answer(0, Response::Okay, 0, 0, 0));
+    }
+
     pub fn local_read(&mut self, offset: u64) -> u32 {
         let accepted = self.config_read(offset);
         assert_eq!(accepted, answer(0, Response::None, 8, 0, 0));
@@ -117,6 +124,23 @@ impl Bench {
     /// A completion without data.
     pub fn status(&mut self, tag: u32, status: u32) -> u32 {
         self.complete(&status_only(tag, status)).number
+    }
+
+    pub fn message(&mut self, bytes: &[u8]) -> Answer {
+        self.bridge.message(bytes)
+    }
+
+    /// Messages of these codes, each from a requester of its own, are accepted.
+    pub fn messages(&mut self, codes: &[u8]) {
+        for (index, code) in codes.iter().enumerate() {
+            let got = self.message(&message(0x0100 + index as u32, *code));
+            assert_eq!(got, refusal(0, Response::None));
+        }
+    }
+
+    /// Words 138, 148 and 154, as reads show them.
+    pub fn error_words(&mut self) -> [u32; 3] {
+        [0x138, 0x148, 0x154].map(|offset| self.local_read(offset))
     }
 
     pub fn tick(&mut self) -> Answer {
@@ -210,6 +234,14 @@ pub fn status_only(tag: u32, status: u32) -> Vec<u8> {
         },
         &[],
     )
+}
+
+/// An error message as 02 lays it out.
+pub fn message(requester: u32, code: u8) -> Vec<u8> {
+    let [_, _, high, low] = requester.to_be_bytes();
+    let mut bytes = vec![0x30, 0, 0, 0, high, low, 0x07, code];
+    bytes.resize(16, 0);
+    bytes
 }
 
 /// Distinct bytes for a payload.
