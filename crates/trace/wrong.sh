@@ -9,7 +9,7 @@
 set -euo pipefail
 cd "$(dirname "$0")/../.."
 jobs=${WRONG_JOBS:-2}
-lower='common refusals bits tags tlp address burst ecam packets'
+lower='common refusals bits tags tlp address burst messages ecam packets'
 logs=$PWD/target/wrong
 room=$(mktemp -d)
 trap 'rm -rf "$room"' EXIT
