@@ -26,7 +26,7 @@ pub mod Stored
 pub mod Asked
 pub mod PieceLaws
 pub mod MemoryExamples
--- Completions, ticks, the link.
+-- Completions, ticks, the link, messages.
 pub mod Coming
 pub mod Keeping
 pub mod Finished
@@ -34,5 +34,6 @@ pub mod Goodness
 pub mod Counting
 pub mod TickLaws
 pub mod Resting
+pub mod MessageLaws
 pub mod CompletionExamples
 pub mod Examples

@@ -3,6 +3,7 @@ pub mod RowLaws
 pub mod Rows
 pub mod MemoryLaws
 pub mod ConfigLaws
+pub mod MessageLaws
 pub mod Effects
 pub mod CompletionLaws
 pub mod TickLaws
