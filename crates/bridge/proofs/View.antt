@@ -1,5 +1,5 @@
 -- A struct is decided by its view, but for where its queue stands: its tables have no other cells.
-use mathlib.Core.Path.{_≡_, refl, sym, ap, _∙_}
+use mathlib.Core.Path.{_≡_, ap, _∙_}
 use mathlib.Core.List.{List}
 use Prim.Native.Nat.{ℕ}
 use Rattle.parts.specs.Cores.{Core}
@@ -7,9 +7,9 @@ use Rattle.address.specs.declared.Settings.{Settings}
 use Rattle.messages.specs.declared.queue.Ring.{Ring}
 use Rattle.machine.proofs.Tables.{same-tags, same-slots}
 use Rattle.machine.specs.State.{Bridge}
-use Rattle.machine.specs.contracts.Tables.{Fixed, fixed}
+use Rattle.machine.specs.contracts.Tables.{fixed}
 use Rattle.bridge.specs.declared.Bridge as code
-use Rattle.bridge.specs.View.{Whole, ViewDecides, viewOf}
+use Rattle.bridge.specs.View.{ViewDecides, viewOf}
 
 -- a struct from its parts, the queue's ring and cells among them
 abbrev made : Ring → List ℕ → Settings → Core → List ℕ → List ℕ → List ℕ → code.Bridge

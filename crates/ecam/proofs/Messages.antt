@@ -1,8 +1,8 @@
 -- The laws on error messages and their words.
-use mathlib.Core.Path.{_≡_, refl, sym, ap, _∙_}
-use mathlib.Core.List.{List, [], _∷_}
+use mathlib.Core.Path.{_≡_, refl, sym}
+use mathlib.Core.List.{[], _∷_}
 use mathlib.Core.Bool.{Bool, true, false, cond, not, _&&_, _||_}
-use Prim.Native.Nat.{ℕ, _+_, _^_, _≤_, _<_}
+use Prim.Native.Nat.{ℕ, _+_, _^_}
 use native.Mathlib.Omega.{arith}
 use lib.ListN.{length}
 use lib.Dec.{eqb}
@@ -11,7 +11,7 @@ use Rattle.bits.specs.Bits.{bit, isSet}
 use Rattle.bits.proofs.Flags.{or-true}
 use Rattle.messages.specs.Queue.{isEmpty}
 use Rattle.messages.specs.Layout.{errCor, errNonFatal, codeOf, errorBit}
-use Rattle.ecam.specs.Registers.{Registers, some, decodeBits, isDecodeBit, errorFifoNotEmpty, errorFifoOverflow, errorFifoRead, status, localRead, localWrite, writeStatus, withErrors, messaged, fresh}
+use Rattle.ecam.specs.Registers.{some, decodeBits, isDecodeBit, errorFifoNotEmpty, errorFifoOverflow, status, localRead, localWrite, writeStatus, withErrors, messaged, fresh}
 use Rattle.ecam.specs.MessageLaws.{MessageBit, MessageQueued, MessageDropped, MessageOnly, StatusBits, StatusWritten, FifoShows, FifoWritten, WordsHideTheQueue}
 use Rattle.ecam.proofs.Words.{allBelow, all-below}
 use Rattle.ecam.proofs.Writes.{raise-sets}

@@ -1,21 +1,20 @@
 -- What is proved of the definitions, for every offset, all registers, every word, strobes and data.
 use mathlib.Core.Path.{_≡_}
-use mathlib.Core.List.{List, [], _∷_, _++_}
+use mathlib.Core.List.{List, [], _∷_}
 use mathlib.Core.Bool.{Bool, true, false, cond, not, _&&_, _||_}
 use Prim.Native.Nat.{ℕ, _+_, _*_, _%_, _^_, _≤_, _<_}
 use lib.Dec.{eqb}
 use Rattle.common.specs.Tests.{firstOf}
 use lib.ListN.{length}
 use Rattle.bits.specs.Bits.{isSet}
-use Rattle.messages.specs.Queue.{depth, isEmpty, isFull, pop, oldest}
-use Rattle.messages.specs.Layout.{codeOf, errorBit, entryOf}
+use Rattle.messages.specs.Queue.{depth, isEmpty}
 use Rattle.tlp.specs.Request.{validRequest}
 use Rattle.ecam.specs.Fields.{Registers}
 use Rattle.ecam.specs.declared.Route.{Route}
 use Rattle.ecam.specs.declared.Route.the-variants.{Type0, Type1}
 use Rattle.ecam.specs.Offset.{register, extended, function, device, bus, word}
 use Rattle.ecam.specs.Route.{outOfRange, isLocal, isRouted, deviceNotZero, route, numberOf}
-use Rattle.ecam.specs.Registers.{isDecodeBit, isErrorBit, decodeWord, byte, strobe, strobed, reached, statusControl, errorFifoNotEmpty, errorFifoOverflow, errorFifoRead, localRead, localWrite, withDecode, withErrors, raised, messaged, line, fresh}
+use Rattle.ecam.specs.Registers.{isDecodeBit, isErrorBit, decodeWord, byte, strobe, strobed, reached, statusControl, errorFifoRead, localRead, localWrite, withDecode, raised, messaged, line, fresh}
 use Rattle.ecam.specs.Request.{configAddress, configRequest, dataBytes, dataWord}
 
 -- ---- offsets and routes

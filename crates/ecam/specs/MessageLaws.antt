@@ -1,14 +1,14 @@
 -- What is proved of error messages and their words (02, A1), for all registers, messages, strobes and data.
 use mathlib.Core.Path.{_≡_}
 use mathlib.Core.List.{List, [], _∷_, _++_}
-use mathlib.Core.Bool.{true, false, not, _&&_, _||_}
+use mathlib.Core.Bool.{true, not, _&&_, _||_}
 use Prim.Native.Nat.{ℕ, _≤_, _<_}
 use lib.ListN.{length}
 use lib.Dec.{eqb}
 use Rattle.bits.specs.Bits.{isSet}
 use Rattle.messages.specs.Queue.{depth, isEmpty, pop, oldest}
 use Rattle.messages.specs.Layout.{codeOf, errorBit, entryOf}
-use Rattle.ecam.specs.Registers.{Registers, isDecodeBit, strobed, statusControl, errorFifoNotEmpty, errorFifoOverflow, errorFifoRead, localRead, localWrite, withDecode, withErrors, withOverflow, raised, messaged}
+use Rattle.ecam.specs.Registers.{Registers, strobed, statusControl, errorFifoNotEmpty, errorFifoOverflow, errorFifoRead, localRead, localWrite, withDecode, withErrors, withOverflow, messaged}
 
 -- ---- a message
 

@@ -1,7 +1,7 @@
 -- The local words, and the registers that they show.
 use Prim.Native.Nat.{ℕ, _+_, _*_, _/_, _%_, _^_}
 use mathlib.Core.List.{List, [], _∷_}
-use mathlib.Core.Bool.{Bool, true, false, cond, not, _&&_, _||_}
+use mathlib.Core.Bool.{Bool, false, cond, not, _&&_, _||_}
 use lib.Dec.{eqb}
 use Rattle.common.specs.Tests.{firstOf}
 use Rattle.common.specs.Decode.{linkDownBit, cfgTimeout, correctable, nonFatal, fatal, slaveUnsupportedRequest, slaveUnexpectedCompletion, slaveCompletionTimeout, slaveErrorPoison, slaveCompleterAbort, slaveIllegalBurst}

@@ -1,5 +1,5 @@
 -- The laws of queues, and what an entry shows.
-use Prim.Native.Nat.{ℕ, zero, suc, _+_, _*_, _/_, _%_, _^_, _≤_, _<_}
+use Prim.Native.Nat.{ℕ, zero, suc, _+_, _≤_, _<_}
 use native.Mathlib.Omega.{arith}
 use mathlib.Core.Path.{_≡_, refl, sym, ap, _∙_}
 use mathlib.Core.List.{List, [], _∷_, _++_}
@@ -7,9 +7,9 @@ use mathlib.Core.Bool.{Bool, true, false, cond}
 use lib.ListN.{length, drop}
 use lib.Dec.{eqb, leb}
 use borrow.Author.Tests.{le-leb, lt-leb, leb-false}
-use Rattle.messages.specs.Queue.{isFull, push, pop}
-use Rattle.messages.specs.Layout.{errCor, errNonFatal, requesterOf, codeOf, typeOf, entryOf}
-use Rattle.messages.specs.Laws.{pushAll, popped, InOrder, RemovedInOrder, NeverMore, PopNoMore, PopEmpty, DropsNewest, RoomForNext, Shows, EntryShows}
+use Rattle.messages.specs.Queue.{push, pop}
+use Rattle.messages.specs.Layout.{errCor, errNonFatal, codeOf, typeOf, entryOf}
+use Rattle.messages.specs.Laws.{pushAll, InOrder, RemovedInOrder, NeverMore, PopNoMore, PopEmpty, DropsNewest, RoomForNext, EntryShows}
 
 pub apart : false ≡ true → ⊥
 apart e = let z : _≡_ {A = ℕ} 0 1 = ap (λ (b : Bool). cond b 1 0) e in omega arith

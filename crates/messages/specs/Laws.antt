@@ -2,9 +2,8 @@
 use Prim.Native.Nat.{ℕ, zero, suc, _/_, _%_, _^_, _≤_, _<_}
 use mathlib.Core.Path.{_≡_}
 use mathlib.Core.List.{List, [], _∷_, _++_}
-use mathlib.Core.Bool.{true}
 use lib.ListN.{length, drop}
-use Rattle.messages.specs.Queue.{depth, isFull, push, pop, oldest}
+use Rattle.messages.specs.Queue.{depth, push, pop}
 use Rattle.messages.specs.Layout.{requesterOf, codeOf, typeOf, entryOf}
 
 -- ---- the queue

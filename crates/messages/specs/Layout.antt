@@ -1,6 +1,6 @@
 -- An error message's bytes (02, A1): 'in hex 30, three zeros, requester ID, any tag, code 30, 31 or 33, eight zeros'.
 use Prim.Native.Nat.{ℕ, _+_, _*_, _^_}
-use mathlib.Core.List.{List, [], _∷_}
+use mathlib.Core.List.{List}
 use mathlib.Core.Bool.{Bool, cond, _&&_, _||_}
 use lib.ListN.{length, getD}
 use lib.Dec.{eqb}

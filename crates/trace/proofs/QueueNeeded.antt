@@ -4,14 +4,14 @@ use Prim.Native.Nat.{ℕ}
 use native.Mathlib.Omega.{arith}
 use mathlib.Core.Path.{_≡_, refl, sym, ap, _∙_}
 use mathlib.Core.List.{List, [], _∷_}
-use mathlib.Core.Bool.{Bool, true, false}
+use mathlib.Core.Bool.{true, false}
 use lib.ListN.{replicate}
 use borrow.Author.Tests.{leb-true}
 use Rattle.bits.specs.Bits.{bit, isSet, fromBits, setBit}
 use Rattle.address.specs.Settings.{exampleSettings, powerAmong, eachFrom, windowRight, apart, windowsRight, settingsRight, settingsNumber}
 use Rattle.messages.specs.Queue.{oldest}
 use Rattle.messages.specs.Layout.{isErrorMessage, entryOf}
-use Rattle.ecam.specs.Registers.{Registers, some, decodeBits, isDecodeBit, byte, strobe, strobed, shown, status, localRead, localWrite, raised, messaged, fresh, withDecode, withErrors}
+use Rattle.ecam.specs.Registers.{Registers, some, decodeBits, isDecodeBit, byte, strobe, strobed, status, localRead, localWrite, raised, messaged, fresh, withDecode, withErrors}
 use Rattle.ecam.specs.Laws.{SameWords}
 use Rattle.ecam.specs.Route.{route}
 use Rattle.parts.specs.Cores.{raisedCore, freshCore}

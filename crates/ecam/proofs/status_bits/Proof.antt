@@ -1,5 +1,4 @@
 use native.Mathlib.Omega.{arith}
-use mathlib.Core.Bool.{Bool, true, false, cond}
 use borrow.Author.Needs.{needs}
 use Rattle.ecam.proofs.status_bits.Statement.{statement}
 use Rattle.ecam.proofs.status_bits.Tie as tie

@@ -1,20 +1,18 @@
 -- What every run's registers keep: a step raises a decode bit, moves the link, writes a local word or takes a message.
-use Prim.Native.Nat.{ℕ, suc, _-_, _%_, _^_, _≤_, _<_}
+use Prim.Native.Nat.{ℕ, suc, _-_, _%_, _^_}
 use mathlib.Core.Path.{_≡_, refl, sym, ap, subst}
 use mathlib.Core.List.{List, [], _∷_}
 use mathlib.Core.Bool.{Bool, true, false, cond, not, _&&_}
 use lib.ListN.{length, drop}
 use lib.Dec.{eqb, ltb}
-use native.Mathlib.Decide.{decLt}
 use native.Mathlib.Omega.{arith}
 use borrow.Author.Tests.{eqb-true}
 use Rattle.address.specs.declared.Settings.{Settings}
-use Rattle.address.specs.Settings.{settingsNumber, exampleSettings}
-use Rattle.tlp.specs.Completion.{validCompletion}
+use Rattle.address.specs.Settings.{settingsNumber}
 use Rattle.verdict.specs.declared.Verdict.{Verdict}
 use Rattle.ecam.specs.declared.Route.{Route}
 use Rattle.ecam.specs.declared.Route.the-variants.{OutOfRange, Local, Type0, Type1, NotRouted, DeviceNotZero}
-use Rattle.ecam.specs.Registers.{Registers, withLink, localWrite, fresh}
+use Rattle.ecam.specs.Registers.{localWrite}
 use Rattle.ecam.specs.Laws.{Held as Kept}
 use Rattle.ecam.proofs.Writes.{fresh-held, write-held, raise-held, message-held}
 use Rattle.refusals.specs.Table.{Change, keeps, sets, changeOf}
@@ -29,7 +27,7 @@ use Rattle.machine.specs.Ticks.{nextTick, linkIn, dropConfig, ticked, linked}
 use Rattle.machine.specs.Take.{takeRefusal, releaseStep}
 use Rattle.machine.specs.Messages.{messageRefusal, messageStep}
 use Rattle.bridge_laws.specs.MemoryLaws.{Tables}
-use Rattle.bridge_laws.specs.Effects.{Acts, Serves, good-part, good-last, poison-part, poison-last, fails, Expires}
+use Rattle.bridge_laws.specs.Effects.{Serves, good-part, good-last, poison-part, poison-last, fails, Expires}
 use Rattle.bridge_laws.specs.Effects as effects
 use Rattle.bridge_laws.specs.CompletionLaws.{Came, short, malformed, lost, memory, config}
 use Rattle.bridge_laws.proofs.Coming.{came-one-way}

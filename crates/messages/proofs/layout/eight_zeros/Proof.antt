@@ -1,4 +1,3 @@
-use Rattle.messages.specs.Layout.{eightZeros}
 use borrow.Author.Needs.{needs}
 use Rattle.messages.proofs.layout.eight_zeros.Statement.{statement}
 use Rattle.messages.proofs.layout.eight_zeros.Tie as tie

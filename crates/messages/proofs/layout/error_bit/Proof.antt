@@ -1,7 +1,4 @@
-use borrow.Author.Tests.{eq-eqb, ne-eqb, le-leb, lt-leb}
-use mathlib.Core.Path.{_≡_, refl, sym, ap, _∙_}
-use native.Mathlib.Omega.{arith}
-use denote.Ref.{now}
+use borrow.Author.Tests.{eq-eqb, ne-eqb}
 use Rattle.messages.proofs.layout.error_bit.Statement.{statement}
 use Rattle.messages.proofs.layout.error_bit.Tie as tie
 use Rattle.messages.proofs.layout.error_bit.Reads as reads

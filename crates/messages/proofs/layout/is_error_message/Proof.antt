@@ -1,9 +1,6 @@
 use Rattle.messages.proofs.Order.{apart}
 use Rattle.messages.specs.Layout.{isErrorMessage}
-use borrow.Author.Tests.{eq-eqb, ne-eqb, le-leb, lt-leb}
-use mathlib.Core.Path.{_≡_, refl, sym, ap, _∙_}
-use native.Mathlib.Omega.{arith}
-use denote.Ref.{now}
+use borrow.Author.Tests.{eq-eqb, ne-eqb}
 use borrow.Author.Needs.{needs}
 use Rattle.messages.proofs.layout.is_error_message.Statement.{statement}
 use Rattle.messages.proofs.layout.is_error_message.Tie as tie

@@ -1,4 +1,3 @@
-use Rattle.messages.specs.Layout.{threeZeros}
 use borrow.Author.Needs.{needs}
 use Rattle.messages.proofs.layout.three_zeros.Statement.{statement}
 use Rattle.messages.proofs.layout.three_zeros.Tie as tie

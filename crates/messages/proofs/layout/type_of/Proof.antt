@@ -1,7 +1,5 @@
-use borrow.Author.Tests.{eq-eqb, ne-eqb, le-leb, lt-leb}
-use mathlib.Core.Path.{_≡_, refl, sym, ap, _∙_}
+use borrow.Author.Tests.{eq-eqb, ne-eqb}
 use native.Mathlib.Omega.{arith}
-use denote.Ref.{now}
 use Rattle.messages.proofs.layout.type_of.Statement.{statement}
 use Rattle.messages.proofs.layout.type_of.Tie as tie
 use Rattle.messages.proofs.layout.type_of.Reads as reads

@@ -1,8 +1,4 @@
 use Rattle.messages.proofs.Cells.{pop-none, pop-some}
-use borrow.Author.Tests.{eq-eqb, ne-eqb, le-leb, lt-leb}
-use mathlib.Core.Path.{_≡_, refl, sym, ap, _∙_}
-use native.Mathlib.Omega.{arith}
-use denote.Ref.{now}
 use borrow.Author.Needs.{needs}
 use Rattle.messages.proofs.queue.pop.Statement.{statement}
 use Rattle.messages.proofs.queue.pop.Tie as tie
