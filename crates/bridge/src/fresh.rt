@@ -55,7 +55,7 @@ impl Bridge {
     // The registers but for the entries of the queue, which stand in `cells`; and of every struct, that its tables have their
     // lengths.
     pub fn registers(self) -> Registers
-        ensures { λ r. ⌜ (registersFrom r (self .cells) ≡ registersOf (viewOf self)) × Whole self ⌝ }
+        ensures { λ r. ⌜ (r ≡ self .core .registers) × ((registersFrom r (self .cells) ≡ registersOf (viewOf self)) × Whole self) ⌝ }
     {
         let core = self.core;
         core.registers

@@ -16,7 +16,7 @@ use Rattle.bits.specs.Bits.{isSet, fromBits, setBit}
 use Rattle.bits.proofs.Flags.{apart, and-left, and-true, and-false}
 use Rattle.bits.proofs.Bits.{from-bits-has, from-bits-fits, same-bits, none-above, set-sets}
 use Rattle.ecam.specs.Fields.{Registers}
-use Rattle.ecam.specs.Registers.{isDecodeBit, isErrorBit, decodeWord, byte, strobe, strobed, reached, clears, cleared, masked, numbered, statusControl, errorFifoRead, localWrite, writeBuses, writeDisable, writeStatus, withDecode, withMask, withErrors, raised, messaged, fresh}
+use Rattle.ecam.specs.Registers.{isDecodeBit, isErrorBit, decodeWord, byte, strobe, strobed, reached, clears, cleared, masked, numbered, statusControl, errorFifoOverflow, errorFifoRead, localWrite, writeBuses, writeDisable, writeStatus, withDecode, withMask, withErrors, raised, messaged, fresh}
 use Rattle.ecam.specs.Laws.{OnlyNamed, WriteOnlyNamed, WriteIgnored, WriteSetsNone, OneWritten, WriteClearsOnes, NoStrobes, StrobesMod16, OnlyDecodeBits, Held, FreshHeld, WriteHeld, RaiseHeld, MessageHeld, DecodeWord, Raised, RaiseSets, RaiseAgain, RaiseOther}
 use Rattle.ecam.proofs.Words.{no-decode-bit}
 
@@ -125,7 +125,7 @@ only-named r w s d q (status e) =
       mask = λ i l h. refl;
       link = refl;
       errors = λ h. refl;
-      overflow = λ h. let f : strobe s 2 ≡ false = rw (eq-eqb w statusControl e) at h in rw f (and-true (r .overflow));
+      overflow = λ h. let f : strobed s errorFifoOverflow ≡ false = rw (eq-eqb w statusControl e) at h in rw f (and-true (r .overflow));
     }
 only-named r w s d q (fifo e) =
     record {

@@ -50,7 +50,7 @@ abbrev pub messages : ℕ → List ℕ → Registers → Registers
 messages zero m r = r
 messages (suc n) m r = messages n m (messaged r m)
 
--- 'Link up, then message 30 00 00 00 01 00 07 30'
+-- one correctable error from 0100, with tag 7; one fatal error from 0310
 pub record OneMessage : Type 0 where
   pub decode : localRead (messaged linkUp (message 0x0100 7 0x30)) 0x138 ≡ 0x00000200
   pub status : localRead (messaged linkUp (message 0x0100 7 0x30)) 0x148 ≡ 0x00010000

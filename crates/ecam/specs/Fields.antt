@@ -1,5 +1,5 @@
 -- The registers as a value, and one setter for each. A new register is a line in each of these, in `fresh`, in the struct of
--- the code and in what the struct means (contracts/).
+-- the code and in what the struct means (contracts/; `bridge` spells the struct out in its view).
 use Prim.Native.Nat.{ℕ}
 use mathlib.Core.List.{List}
 use mathlib.Core.Bool.{Bool}

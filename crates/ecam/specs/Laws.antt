@@ -14,7 +14,7 @@ use Rattle.ecam.specs.declared.Route.{Route}
 use Rattle.ecam.specs.declared.Route.the-variants.{Type0, Type1}
 use Rattle.ecam.specs.Offset.{register, extended, function, device, bus, word}
 use Rattle.ecam.specs.Route.{outOfRange, isLocal, isRouted, deviceNotZero, route, numberOf}
-use Rattle.ecam.specs.Registers.{isDecodeBit, isErrorBit, decodeWord, byte, strobe, strobed, reached, statusControl, errorFifoRead, localRead, localWrite, withDecode, raised, messaged, line, fresh}
+use Rattle.ecam.specs.Registers.{isDecodeBit, isErrorBit, decodeWord, byte, strobe, strobed, reached, statusControl, errorFifoOverflow, errorFifoRead, localRead, localWrite, withDecode, raised, messaged, line, fresh}
 use Rattle.ecam.specs.Request.{configAddress, configRequest, dataBytes, dataWord}
 
 -- ---- offsets and routes
@@ -82,7 +82,7 @@ pub record OnlyNamed (r : Registers) (w s : ℕ) (q : Registers) : Type 0 where
   pub mask : (i : ℕ) → i < 32 → (eqb w 0x13C && reached s i) ≡ false → isSet (q .mask) i ≡ isSet (r .mask) i
   pub link : q .link ≡ r .link
   pub errors : eqb w errorFifoRead ≡ false → q .errors ≡ r .errors
-  pub overflow : (eqb w statusControl && strobe s 2) ≡ false → q .overflow ≡ r .overflow
+  pub overflow : (eqb w statusControl && strobed s errorFifoOverflow) ≡ false → q .overflow ≡ r .overflow
 
 abbrev pub WriteOnlyNamed : Type 0
 WriteOnlyNamed = (r : Registers) (w s d : ℕ) → OnlyNamed r w s (localWrite r w s d)

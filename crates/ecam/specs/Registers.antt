@@ -1,4 +1,4 @@
--- The local words, and the registers that they show.
+-- The local words, and the registers behind them.
 use Prim.Native.Nat.{ℕ, _+_, _*_, _/_, _%_, _^_}
 use mathlib.Core.List.{List, [], _∷_}
 use mathlib.Core.Bool.{Bool, false, cond, not, _&&_, _||_}

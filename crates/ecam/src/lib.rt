@@ -1,4 +1,4 @@
-// Configuration space: where an access goes, and the registers that the local words show.
+// Configuration space: where an access goes, and the registers behind the local words.
 use common::long;
 use messages::queue::DEPTH;
 use messages::queue::Ring;
@@ -15,6 +15,8 @@ ghost use Rattle.ecam.specs.Offset.{register, extended, function, device
 ghost use Rattle.ecam.specs.Route.{outOfRange, route, numberOf};
 ghost use Rattle.ecam.specs.Request.{configAddress, configTarget, configRequest, dataBytes, dataWord};
 ghost use Rattle.ecam.specs.Registers.{fresh, strobed, reached, clears, numbered, shown, cleared, masked, errorFifoNotEmpty, errorFifoOverflow, status, localRead, localWrite, raised, messaged, line};
+ghost use Rattle.messages.specs.Layout.{entryOf};
+ghost use Rattle.messages.specs.contracts.Cells.{cellsAfter};
 ghost use Rattle.ecam.specs.contracts.Struct.{registersFrom};
 
 pub struct Registers {
@@ -63,10 +65,16 @@ const DECODE: u32 = 0x03F0_0F01;
 // All but bits 9 to 11.
 const NO_ERRORS: u32 = 0xFFFF_F1FF;
 
-// Bits 16 and 17 of 148.
-const FIFO_NOT_EMPTY: u32 = 65536;
+// 148, with its bits 16 and 17, and 154.
+const STATUS_CONTROL: u32 = 0x148;
 
-const FIFO_OVERFLOW: u32 = 131072;
+const FIFO_NOT_EMPTY: u32 = 0x0001_0000;
+
+const FIFO_OVERFLOW: u32 = 0x0002_0000;
+
+const OVERFLOW_BIT: u32 = 17;
+
+const ERROR_FIFO_READ: u32 = 0x154;
 
 pub fn register(offset: u64) -> u32
     ensures { λ r. ⌜ r ≡ register offset ⌝ }
@@ -318,8 +326,8 @@ fn flag(b: bool, w: u32) -> u32
 fn keep_overflow(x: bool, strobes: u32, data: u32) -> bool
     ensures { λ r. ⌜ r ≡ (x && not (strobed strobes errorFifoOverflow && isSet «data» errorFifoOverflow)) ⌝ }
 {
-    let chosen = bits::is_set(strobes % 16, 2);
-    let one = bits::is_set(data, 17);
+    let chosen = bits::is_set(strobes % 16, OVERFLOW_BIT / 8);
+    let one = bits::is_set(data, OVERFLOW_BIT);
     x & !(chosen & one)
 }
 
@@ -367,10 +375,10 @@ pub fn local_read(r: Registers, cells: &[u32; DEPTH], word: u32) -> u32
     if word == 0x144 {
         return flag(r.link, 2048);
     }
-    if word == 0x148 {
+    if word == STATUS_CONTROL {
         return status_of(r);
     }
-    if word == 0x154 {
+    if word == ERROR_FIFO_READ {
         let errors = r.errors;
         return messages::queue::oldest(errors, cells);
     }
@@ -402,11 +410,11 @@ pub fn local_write(r: Registers, word: u32, strobes: u32, data: u32) -> Register
         q.mask = set_mask(r.mask, strobes, data);
         return q;
     }
-    if word == 0x148 {
+    if word == STATUS_CONTROL {
         q.overflow = keep_overflow(r.overflow, strobes, data);
         return q;
     }
-    if word == 0x154 {
+    if word == ERROR_FIFO_READ {
         q.errors = messages::queue::pop(errors);
         return q;
     }
@@ -426,7 +434,8 @@ pub fn raise(decode: u32, i: u32) -> u32
 // An error message came, of 16 bytes.
 pub fn message(r: Registers, cells: &mut [u32; DEPTH], packet: &[u8]) -> Registers
     requires { ⌜ 16 ≤ length (now packet) ⌝ }
-    ensures { λ q. ⌜ registersFrom q (now (cells .exit)) ≡ messaged (registersFrom r (now (cells .entry))) (now (packet .entry)) ⌝ }
+    ensures cells { λ q. ⌜ now (cells .exit) ≡ cellsAfter (r .errors) (now (cells .entry)) (entryOf (now (packet .entry))) ⌝ }
+    ensures registers { λ q. ⌜ registersFrom q (now (cells .exit)) ≡ messaged (registersFrom r (now (cells .entry))) (now (packet .entry)) ⌝ }
 {
     let errors = r.errors;
     let full = messages::queue::is_full(errors);

@@ -9,6 +9,13 @@ use Rattle.common.specs.Decode.{correctable, nonFatal, fatal}
 abbrev pub byte : List ℕ → ℕ → ℕ
 byte s i = getD s i 0
 
+-- the first byte, a message without data that is routed to the root, and the length
+abbrev pub messageFirst : ℕ
+messageFirst = 0x30
+
+abbrev pub messageLength : ℕ
+messageLength = 16
+
 -- ---- the codes
 
 abbrev pub errCor : ℕ
@@ -23,7 +30,7 @@ errFatal = 0x33
 abbrev pub isErrorCode : ℕ → Bool
 isErrorCode c = eqb c errCor || eqb c errNonFatal || eqb c errFatal
 
--- the type that 154 shows: 00 correctable, 01 non-fatal, 10 fatal
+-- the type that 154 shows: 00 correctable, 01 non-fatal, 10 fatal; only an error's code is asked
 abbrev pub typeOf : ℕ → ℕ
 typeOf c = cond (eqb c errCor) 0 (cond (eqb c errNonFatal) 1 2)
 
@@ -58,7 +65,8 @@ eightZeros s =
 
 -- exactly 16 bytes
 unfoldable pub isErrorMessage : List ℕ → Bool
-isErrorMessage s = eqb (length s) 16 && (eqb (byte s 0) 0x30 && threeZeros s && isErrorCode (codeOf s) && eightZeros s)
+isErrorMessage s =
+    eqb (length s) messageLength && (eqb (byte s 0) messageFirst && threeZeros s && isErrorCode (codeOf s) && eightZeros s)
 
 -- ---- the entry that is queued, as 154 shows it: requester ID in 15:0, type in 17:16, valid in 18
 

@@ -6,11 +6,21 @@ ghost use Prim.Native.Nat.{_+_, _*_, _^_, _≤_, _<_};
 ghost use lib.ListN.{length};
 ghost use Rattle.messages.specs.Layout.{isErrorCode, typeOf, errorBit, threeZeros, eightZeros, isErrorMessage, codeOf, requesterOf, entryOf};
 
+// The first byte, and how many there are.
+const MESSAGE: u32 = 0x30;
+
+const LENGTH: usize = 16;
+
 const ERR_COR: u32 = 0x30;
 
 const ERR_NONFATAL: u32 = 0x31;
 
 const ERR_FATAL: u32 = 0x33;
+
+// Where 154 has the type and valid.
+const TYPE: u32 = 0x0001_0000;
+
+const VALID: u32 = 0x0004_0000;
 
 fn is_error_code(code: u32) -> bool
     ensures { λ r. ⌜ r ≡ isErrorCode code ⌝ }
@@ -71,12 +81,12 @@ pub fn is_error_message(s: &[u8]) -> bool
     ensures { λ r. ⌜ (r ≡ isErrorMessage (now (s .entry))) × (r ≡ true → length (now (s .entry)) ≡ 16) ⌝ }
 {
     let n = s.len();
-    if n != 16 {
+    if n != LENGTH {
         return false;
     }
     let kind = wide(s[0]);
     let code = wide(s[7]);
-    (kind == 0x30) & three_zeros(s) & is_error_code(code) & eight_zeros(s)
+    (kind == MESSAGE) & three_zeros(s) & is_error_code(code) & eight_zeros(s)
 }
 
 pub fn code_of(s: &[u8]) -> u32
@@ -103,5 +113,5 @@ pub fn entry_of(s: &[u8]) -> u32
 {
     let requester = requester_of(s);
     let code = code_of(s);
-    requester + type_of(code) * 65536 + 262144
+    requester + type_of(code) * TYPE + VALID
 }

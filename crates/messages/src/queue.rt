@@ -5,9 +5,11 @@ ghost use mathlib.Core.Path.{_≡_};
 ghost use Prim.Native.Nat.{ℕ, _<_};
 ghost use lib.ListN.{length, set};
 ghost use Rattle.messages.specs.Queue.{depth, oldest, isEmpty, isFull, push, pop};
-ghost use Rattle.messages.specs.contracts.Cells.{queueOf};
+ghost use Rattle.messages.specs.contracts.Cells.{queueOf, cellsAfter};
 
 pub const DEPTH: usize = 32;
+
+const ENTRIES: u32 = 32;
 
 // Where the oldest entry stands, mod 32, and how many there are.
 pub struct Ring {
@@ -30,7 +32,7 @@ pub fn is_empty(r: Ring) -> bool
 pub fn is_full(r: Ring) -> bool
     ensures { λ x. ⌜ ((cells : List ℕ) → x ≡ isFull (queueOf r cells)) ⌝ }
 {
-    32 <= r.count
+    ENTRIES <= r.count
 }
 
 // The oldest entry, 0 where there is none.
@@ -40,7 +42,7 @@ pub fn oldest(r: Ring, cells: &[u32; DEPTH]) -> u32
     if r.count == 0 {
         return 0;
     }
-    let at = index(r.first % 32);
+    let at = index(r.first % ENTRIES);
     cells[at]
 }
 
@@ -52,7 +54,7 @@ pub fn pop(r: Ring) -> Ring
         return r;
     }
     Ring {
-        first: r.first % 32 + 1,
+        first: r.first % ENTRIES + 1,
         count: r.count - 1,
     }
 }
@@ -69,13 +71,14 @@ fn put(cells: [u32; DEPTH], at: usize, entry: u32) -> [u32; DEPTH]
 
 // An entry is the newest; a full queue stays as it is.
 pub fn push(r: Ring, cells: &mut [u32; DEPTH], entry: u32) -> Ring
-    ensures { λ q. ⌜ queueOf q (now (cells .exit)) ≡ push (queueOf r (now (cells .entry))) entry ⌝ }
+    ensures queue { λ q. ⌜ queueOf q (now (cells .exit)) ≡ push (queueOf r (now (cells .entry))) entry ⌝ }
+    ensures cells { λ q. ⌜ now (cells .exit) ≡ cellsAfter r (now (cells .entry)) entry ⌝ }
 {
-    if 32 <= r.count {
+    if ENTRIES <= r.count {
         return r;
     }
     let old = *cells;
-    let at = index((r.first % 32 + r.count) % 32);
+    let at = index((r.first % ENTRIES + r.count) % ENTRIES);
     let after = put(old, at, entry);
     *cells = after;
     Ring {

@@ -19,9 +19,9 @@ use Rattle.machine.specs.Ticks.{ticked, tickStep, linked, linkStep}
 use Rattle.machine.specs.Messages.{messageStep}
 use Rattle.machine.specs.Take.{takeRefusal, looked, releaseStep}
 
--- what the bridge's user calls, with the arguments; of a lent sending area, its length. None of these brings a completion, ticks
--- or changes the link: a new such call is a case here, in `posts`, `releases` and `called`, and in `askedBy` (FarSide); time, the
--- link and the pairing of completions do not see it
+-- calls with their arguments, an error message from the link among them; of a lent sending area, its length. None of these brings
+-- a completion, ticks or changes the link: a new such call is a case here, in `posts`, `releases` and `called`, in `askedBy`
+-- (FarSide) and in `Methods`; time, the link and the pairing of completions do not see it
 pub data Call : Type 0 where
   read : Burst → ℕ → Call
   write : Burst → List ℕ → ℕ → Call

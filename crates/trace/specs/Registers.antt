@@ -23,7 +23,8 @@ pub record EqualRegisters (r q : Registers) : Type 0 where
   pub words : SameWords r q
   pub queue : r .errors ≡ q .errors
 
--- two bridges left with the link down, every answer taken, equal settings and a relation of their registers
+-- two bridges left with the link down, every answer taken, equal settings and registers that are the same in some sense answer
+-- all later events alike, and the registers stay equal
 abbrev pub AlikeBy : (Registers → Registers → Type 0) → Type 0
 AlikeBy same =
     (x y : Held) → Left x → Left y
@@ -31,10 +32,10 @@ AlikeBy same =
     → same (registersOf (x .bridge)) (registersOf (y .bridge))
     → (later : List Event) → seen x later ≡ seen y later
 
--- answer alike where that is 'equal registers'
+-- so it is where the sense is 'equal registers'
 abbrev pub AlikeByWords : Type 0
 AlikeByWords = AlikeBy EqualRegisters
 
--- and need not where it is the words alone: two queues may differ in their second entry
+-- and not where it is the words alone: two queues may differ in their second entry
 abbrev pub QueueIsNeeded : Type 0
 QueueIsNeeded = AlikeBy SameWords → ⊥

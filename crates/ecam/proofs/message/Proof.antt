@@ -31,7 +31,7 @@ push-requires c κs = search needs
 
 returns : tie.Need-returns
 unfolding messaged
-returns c = rw (c .push .ensures, ← c .before .before .before .before .before .before .before .is-full .ensures _, c .before .before .before .raise .ensures, c .before .before .before .before .before .error-bit .ensures, c .before .before .before .before .before .before .code-of .ensures, c .before .before .before .before .entry-of .ensures)
+returns c = (rw (← c .before .before .before .before .entry-of .ensures) (c .push .ensures .1), rw (c .push .ensures .0, ← c .before .before .before .before .before .before .before .is-full .ensures _, c .before .before .before .raise .ensures, c .before .before .before .before .before .error-bit .ensures, c .before .before .before .before .before .before .code-of .ensures, c .before .before .before .before .entry-of .ensures))
 
 pub message-spec : {M : Type 1} → statement M
 message-spec =

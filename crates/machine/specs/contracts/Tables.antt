@@ -10,7 +10,7 @@ use Rattle.parts.specs.contracts.Columns.{column, sentColumn, ownerColumn, plac
 use Rattle.machine.specs.Bridge.{Bridge}
 use Rattle.machine.specs.Completions.{Held, held}
 
--- what no event but a message changes: the settings, and the cells
+-- what the other events leave: the settings, which none changes, and the cells, which a message alone changes
 pub record Fixed : Type 0 where
   pub settings : Settings
   pub cells : List ℕ

@@ -1,4 +1,4 @@
--- 'Equal registers' as the words and the queue; and that the words alone are not enough.
+-- 'Equal registers' as the words and the queue.
 use mathlib.Core.Path.{sym, subst}
 use Rattle.ecam.specs.Laws.{Held as Kept}
 use Rattle.ecam.proofs.Shown.{shown-is-all}

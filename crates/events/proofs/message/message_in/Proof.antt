@@ -32,14 +32,14 @@ refuse-requires c κs = search needs
 
 returns : tie.Need-returns
 unfolding messageStep messageNumber refused
-returns c = λ s m t x. rw (← c .before .before .is-error-message .ensures .0, c .before .if1 .taken, c .refuse .ensures .0, c .refuse .ensures .1)
+returns c = (λ s m t x. rw (← c .before .before .is-error-message .ensures .0, c .before .if1 .taken, c .refuse .ensures .0, c .refuse .ensures .1), rw (← c .before .before .is-error-message .ensures .0, c .before .if1 .taken))
 
 refuse-requires-2 : tie.Need-refuse-requires-2
 refuse-requires-2 c κs = search needs
 
 returns-2 : tie.Need-returns-2
 unfolding messageStep messageNumber refused
-returns-2 c = λ s m t x. rw (← c .before .before .before .before .before .is-error-message .ensures .0, c .before .before .before .before .if1 .left, c .before .if2 .taken, c .refuse2 .ensures .0, c .refuse2 .ensures .1)
+returns-2 c = (λ s m t x. rw (← c .before .before .before .before .before .is-error-message .ensures .0, c .before .before .before .before .if1 .left, c .before .if2 .taken, c .refuse2 .ensures .0, c .refuse2 .ensures .1), rw (← c .before .before .before .before .before .is-error-message .ensures .0, c .before .before .before .before .if1 .left, c .before .if2 .taken))
 
 message-requires : tie.Need-message-requires
 message-requires c κs = omega (arith, c .before .before .before .before .before .is-error-message .ensures .1 (not-false (c .before .before .before .before .before .is-error-message .result) (c .before .before .before .before .if1 .left)))
@@ -49,9 +49,12 @@ accepted-as-requires c κs = search needs
 
 returns-3 : tie.Need-returns-3
 unfolding messageStep messageNumber refused
-returns-3 c = λ s m t x. rw (← c .before .before .before .before .before .before .before .is-error-message .ensures .0, c .before .before .before .before .before .before .if1 .left, c .before .before .before .if2 .left, c .accepted-as .ensures)
-    (ap (λ (r : Registers). answered (coreIn (withRegisters r (coreFrom (c .before .before .before .before .before .before .before .before .before .args .c) (now (c .before .before .before .before .before .before .before .before .before .args .cells)))) (bridgeOf (fixed s (now (c .before .before .before .before .before .before .before .before .before .args .cells))) (c .before .before .before .before .before .before .before .before .before .args .c) m t x)) (accepted Nothing 0 0 0))
-    (c .before .message .ensures))
+returns-3 c = (
+  λ s m t x. rw (← c .before .before .before .before .before .before .before .is-error-message .ensures .0, c .before .before .before .before .before .before .if1 .left, c .before .before .before .if2 .left, c .accepted-as .ensures)
+      (ap (λ (r : Registers). answered (coreIn (withRegisters r (coreFrom (c .before .before .before .before .before .before .before .before .before .args .c) (now (c .before .before .before .before .before .before .before .before .before .args .cells)))) (bridgeOf (fixed s (now (c .before .before .before .before .before .before .before .before .before .args .cells))) (c .before .before .before .before .before .before .before .before .before .args .c) m t x)) (accepted Nothing 0 0 0))
+      (c .before .message .ensures .1)),
+  rw (← c .before .before .before .before .before .before .before .is-error-message .ensures .0, c .before .before .before .before .before .before .if1 .left, c .before .before .before .if2 .left) (c .before .message .ensures .0),
+)
 
 pub message-in-spec : {M : Type 1} → statement M
 message-in-spec =
