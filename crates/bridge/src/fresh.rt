@@ -3,7 +3,7 @@ use crate::Answered;
 use crate::Bridge;
 use crate::Response;
 use address::Settings;
-use ecam::Registers;
+use ecam::registers::Registers;
 use messages::queue::DEPTH;
 use parts::SLOT_CELLS;
 use parts::TAG_CELLS;
@@ -68,7 +68,7 @@ impl Bridge {
         let core = self.core;
         let registers = core.registers;
         let cells = self.cells;
-        ecam::local_read(registers, &cells, word)
+        ecam::registers::local_read(registers, &cells, word)
     }
 
     // The interrupt line.
@@ -77,6 +77,6 @@ impl Bridge {
     {
         let core = self.core;
         let registers = core.registers;
-        ecam::line(registers)
+        ecam::registers::line(registers)
     }
 }

@@ -7,7 +7,7 @@ use lib.Dec.{ltb, eqb}
 use Rattle.common.specs.Decode.{linkDownBit}
 use Rattle.bits.specs.Bits.{isSet}
 use Rattle.ecam.specs.Registers.{some, decodeBits, isDecodeBit}
-use Rattle.ecam.proofs.Writes.{raise-sets}
+use Rattle.ecam.proofs.Keeps.{raise-sets}
 use Rattle.parts.specs.Cores.{Core}
 use Rattle.machine.specs.State.{tagCount, slotCount, slotOpen, slotState, withFree, withConfig, raisedCore, refusalResponse, refusalChange, refusal, refused}
 use Rattle.machine.specs.Completions.{Held, held, storeSize}

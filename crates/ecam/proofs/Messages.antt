@@ -14,7 +14,7 @@ use Rattle.messages.specs.Layout.{errCor, errNonFatal, codeOf, errorBit}
 use Rattle.ecam.specs.Registers.{some, decodeBits, isDecodeBit, errorFifoNotEmpty, errorFifoOverflow, status, localRead, localWrite, writeStatus, withErrors, messaged, fresh}
 use Rattle.ecam.specs.MessageLaws.{MessageBit, MessageQueued, MessageDropped, MessageOnly, StatusBits, StatusWritten, FifoShows, FifoWritten, WordsHideTheQueue}
 use Rattle.ecam.proofs.Words.{allBelow, all-below}
-use Rattle.ecam.proofs.Writes.{raise-sets}
+use Rattle.ecam.proofs.Keeps.{raise-sets}
 
 -- ---- a message
 

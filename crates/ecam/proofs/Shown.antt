@@ -17,7 +17,8 @@ use Rattle.ecam.specs.Registers.{some, decodeBits, isDecodeBit, isErrorB
 use Rattle.ecam.specs.Laws.{ReadElsewhere, ReadBuses, ReadBusesTop, ReadInfo, ReadDisable, ReadDecode, ReadMask, ReadLink, ReadRest, OnlyDecodeBits, Held, ShownIsAll, Share, LineHigh, LineOnly}
 use Rattle.ecam.proofs.Words.{some-at, Found, some-found}
 use Rattle.ecam.proofs.Writes as writes
-use Rattle.ecam.proofs.Writes.{Wrote, buses, disable, decode, mask, fifo, none, wrote, decode-below}
+use Rattle.ecam.proofs.Writes.{Wrote, buses, disable, decode, mask, fifo, none, wrote}
+use Rattle.ecam.proofs.Keeps.{decode-below}
 use Rattle.messages.specs.Queue.{isEmpty}
 
 -- ---- elsewhere

@@ -35,7 +35,7 @@ pub fn message_in(c: Core, cells: &mut [u32; DEPTH], packet: &[u8]) -> Done
         return refuse(LINK_DOWN, c);
     }
     let mut d = c;
-    d.registers = ecam::message(registers, cells, packet);
+    d.registers = ecam::registers::message(registers, cells, packet);
     Done {
         core: d,
         answer: accepted_as(Response::Nothing, 0, 0, 0),

@@ -82,7 +82,7 @@ pub fn local_core(
     let registers = c.registers;
     let mut d = c;
     if write {
-        d.registers = ecam::local_write(registers, w, strobes, word);
+        d.registers = ecam::registers::local_write(registers, w, strobes, word);
         let config = ConfigSlot {
             state: FINISHED,
             write: true,
@@ -92,7 +92,7 @@ pub fn local_core(
         d.config = config;
         return d;
     }
-    let shown = ecam::local_read(registers, cells, w);
+    let shown = ecam::registers::local_read(registers, cells, w);
     let config = ConfigSlot {
         state: FINISHED,
         write: false,

@@ -20,7 +20,7 @@ pub fn raise_in(c: Core, bit: u32) -> Core
     ensures { λ r. ⌜ ((cells : List ℕ) → coreFrom r cells ≡ raisedCore bit (coreFrom c cells)) ⌝ }
 {
     let mut r = c.registers;
-    r.decode = ecam::raise(r.decode, bit);
+    r.decode = ecam::registers::raise(r.decode, bit);
     let mut d = c;
     d.registers = r;
     d

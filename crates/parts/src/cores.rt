@@ -4,7 +4,7 @@ use crate::access::drop_config;
 use crate::access::free_config;
 use crate::answers::raise_in;
 use common::LINK_DOWN_BIT;
-use ecam::fresh_registers;
+use ecam::registers::fresh_registers;
 ghost use Prim.Native.Nat.{ℕ, _-_, _^_};
 ghost use mathlib.Core.List.{List};
 ghost use mathlib.Core.Bool.{false};

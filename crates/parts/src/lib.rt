@@ -5,7 +5,7 @@ pub mod cores;
 pub mod numbers;
 pub mod requests;
 
-use ecam::Registers;
+use ecam::registers::Registers;
 use refusals::Response;
 
 // How many tags and read slots, and how long a slot, the store and the sending area.

@@ -2,7 +2,7 @@
 use Prim.Native.Nat.{ℕ}
 use mathlib.Core.List.{List}
 use Rattle.messages.specs.contracts.Cells.{queueOf}
-use Rattle.ecam.specs.declared.Registers as code
+use Rattle.ecam.specs.declared.registers.Registers as code
 use Rattle.ecam.specs.Fields.{Registers}
 
 abbrev pub registersFrom : code.Registers → List ℕ → Registers

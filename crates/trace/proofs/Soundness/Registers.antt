@@ -14,7 +14,7 @@ use Rattle.ecam.specs.declared.Route.{Route}
 use Rattle.ecam.specs.declared.Route.the-variants.{OutOfRange, Local, Type0, Type1, NotRouted, DeviceNotZero}
 use Rattle.ecam.specs.Registers.{localWrite}
 use Rattle.ecam.specs.Laws.{Held as Kept}
-use Rattle.ecam.proofs.Writes.{fresh-held, write-held, raise-held, message-held}
+use Rattle.ecam.proofs.Keeps.{fresh-held, write-held, raise-held, message-held}
 use Rattle.refusals.specs.Table.{Change, keeps, sets, changeOf}
 use Rattle.parts.specs.Cores.{Core}
 use Rattle.parts.specs.Answers.{changed}

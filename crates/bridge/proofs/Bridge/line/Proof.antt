@@ -3,7 +3,7 @@ use Rattle.bridge.proofs.Bridge.line.Statement.{statement}
 use Rattle.bridge.proofs.Bridge.line.Tie as tie
 use Rattle.bridge.proofs.Bridge.line.Reads as reads
 use Rattle.bridge.proofs.Bridge.line.Lts as lts
-use Rattle.ecam.proofs.line.Reads as line-reads
+use Rattle.ecam.proofs.registers.line.Reads as line-reads
 
 line-requires : tie.Need-line-requires
 line-requires c κs = search needs

@@ -15,7 +15,7 @@ use Rattle.events.proofs.message.message_in.Statement.{statement}
 use Rattle.events.proofs.message.message_in.Tie as tie
 use Rattle.events.proofs.message.message_in.Reads as reads
 use Rattle.events.proofs.message.message_in.Lts as lts
-use Rattle.ecam.proofs.message.Reads as message-reads
+use Rattle.ecam.proofs.registers.message.Reads as message-reads
 use Rattle.messages.proofs.layout.is_error_message.Reads as is-error-message-reads
 use Rattle.parts.proofs.answers.accepted_as.Reads as accepted-as-reads
 use Rattle.parts.proofs.answers.refuse.Reads as refuse-reads

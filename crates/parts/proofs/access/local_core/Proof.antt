@@ -4,8 +4,8 @@ use Rattle.parts.proofs.access.local_core.Statement.{statement}
 use Rattle.parts.proofs.access.local_core.Tie as tie
 use Rattle.parts.proofs.access.local_core.Reads as reads
 use Rattle.parts.proofs.access.local_core.Lts as lts
-use Rattle.ecam.proofs.local_read.Reads as local-read-reads
-use Rattle.ecam.proofs.local_write.Reads as local-write-reads
+use Rattle.ecam.proofs.registers.local_read.Reads as local-read-reads
+use Rattle.ecam.proofs.registers.local_write.Reads as local-write-reads
 
 local-write-requires : tie.Need-local-write-requires
 local-write-requires c κs = search needs

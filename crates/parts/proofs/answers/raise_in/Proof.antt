@@ -4,7 +4,7 @@ use Rattle.parts.proofs.answers.raise_in.Statement.{statement}
 use Rattle.parts.proofs.answers.raise_in.Tie as tie
 use Rattle.parts.proofs.answers.raise_in.Reads as reads
 use Rattle.parts.proofs.answers.raise_in.Lts as lts
-use Rattle.ecam.proofs.raise.Reads as raise-reads
+use Rattle.ecam.proofs.registers.raise.Reads as raise-reads
 
 raise-requires : tie.Need-raise-requires
 raise-requires c κs = search needs

@@ -4,7 +4,7 @@ use Rattle.parts.proofs.cores.fresh_core.Statement.{statement}
 use Rattle.parts.proofs.cores.fresh_core.Tie as tie
 use Rattle.parts.proofs.cores.fresh_core.Reads as reads
 use Rattle.parts.proofs.cores.fresh_core.Lts as lts
-use Rattle.ecam.proofs.fresh_registers.Reads as fresh-registers-reads
+use Rattle.ecam.proofs.registers.fresh_registers.Reads as fresh-registers-reads
 use Rattle.parts.proofs.access.free_config.Reads as free-config-reads
 
 fresh-registers-requires : tie.Need-fresh-registers-requires
