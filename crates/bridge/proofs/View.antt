@@ -3,6 +3,7 @@ use mathlib.Core.Path.{_≡_, ap, _∙_}
 use mathlib.Core.List.{List}
 use Prim.Native.Nat.{ℕ}
 use Rattle.parts.specs.Cores.{Core}
+use Rattle.parts.specs.contracts.Struct.{coreAt}
 use Rattle.address.specs.declared.Settings.{Settings}
 use Rattle.messages.specs.declared.queue.Ring.{Ring}
 use Rattle.machine.proofs.Tables.{same-tags, same-slots}
@@ -14,31 +15,7 @@ use Rattle.bridge.specs.View.{ViewDecides, viewOf}
 -- a struct from its parts, the queue's ring and cells among them
 abbrev made : Ring → List ℕ → Settings → Core → List ℕ → List ℕ → List ℕ → code.Bridge
 made ring cells s c m t x =
-    record {
-      settings = s;
-      core =
-          record {
-            registers =
-                record {
-                  primary = c .registers .primary;
-                  secondary = c .registers .secondary;
-                  subordinate = c .registers .subordinate;
-                  disable = c .registers .disable;
-                  decode = c .registers .decode;
-                  mask = c .registers .mask;
-                  link = c .registers .link;
-                  errors = ring;
-                  overflow = c .registers .overflow;
-                };
-            ticks = c .ticks;
-            free = c .free;
-            config = c .config;
-          };
-      missing = m;
-      tags = t;
-      slots = x;
-      cells = cells;
-    }
+    record { settings = s; core = coreAt ring c; missing = m; tags = t; slots = x; cells = cells }
 
 pub view-decides : ViewDecides
 view-decides x y v w e =

@@ -5,6 +5,7 @@ use lib.ListN.{length}
 use Prim.Native.Nat.{ℕ}
 use Rattle.messages.specs.declared.queue.Ring.{Ring}
 use Rattle.parts.specs.contracts.Columns.{tagCells, slotCells}
+use Rattle.parts.specs.contracts.Struct.{coreAt}
 use Rattle.bridge.specs.declared.Bridge as code
 use Rattle.bridge.specs.declared.Answered as answer
 use Rattle.machine.specs.State.{Bridge, Answered, answered}
@@ -29,24 +30,7 @@ abbrev pub moved : Ring → List ℕ → code.Bridge → code.Bridge
 moved ring cells b =
     record {
       settings = b .settings;
-      core =
-          record {
-            registers =
-                record {
-                  primary = b .core .registers .primary;
-                  secondary = b .core .registers .secondary;
-                  subordinate = b .core .registers .subordinate;
-                  disable = b .core .registers .disable;
-                  decode = b .core .registers .decode;
-                  mask = b .core .registers .mask;
-                  link = b .core .registers .link;
-                  errors = ring;
-                  overflow = b .core .registers .overflow;
-                };
-            ticks = b .core .ticks;
-            free = b .core .free;
-            config = b .core .config;
-          };
+      core = coreAt ring (viewOf b .core);
       missing = b .missing;
       tags = b .tags;
       slots = b .slots;

@@ -7,8 +7,8 @@ use parts::SLOTS;
 use parts::STORE_SIZE;
 use parts::TAGS;
 use parts::answers::plain_answer;
+use parts::cores::link_to;
 use parts::cores::lost_core;
-use parts::cores::with_link;
 use refusals::TOO_SHORT;
 ghost use mathlib.Core.Path.{_≡_};
 ghost use mathlib.Core.List.{List};
@@ -57,7 +57,7 @@ pub fn link_in(
         };
     }
     Done {
-        core: with_link(c, up),
+        core: link_to(c, up),
         answer: plain_answer(0),
     }
 }

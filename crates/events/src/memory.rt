@@ -94,7 +94,7 @@ pub fn read_in(
     if number != 0 {
         return refuse(number, c);
     }
-    claim(slots, slot, s.reads, q);
+    claim(slots, slot, s.reads, c.session, q);
     let t = read_pieces(s, c, missing, tags, slot, q, area);
     let core = t.core;
     Done {

@@ -6,15 +6,17 @@ use parts::Core;
 use parts::Done;
 use parts::FINISHED;
 use parts::FREE;
+use parts::Figures;
+use parts::SESSION;
 use parts::SIZE;
 use parts::SLOT_CELLS;
 use parts::SLOT_SIZE;
 use parts::STATE;
 use parts::STORE_SIZE;
 use parts::access::free_config;
-use parts::answers::accepted_as;
 use parts::answers::refuse;
 use parts::answers::response_of;
+use parts::answers::taken_as;
 use parts::numbers::number_for;
 use parts::numbers::state_in;
 use parts::numbers::within_slot;
@@ -57,7 +59,7 @@ pub fn look_in<'a>(c: Core, slots: &[u32; SLOT_CELLS], store: &'a [u8], slot: u3
     &store[at..end]
 }
 
-// A finished slot is free, and its response and data word are handed out.
+// A finished slot is free, and its response, data word and figures are handed out.
 pub fn release_in(c: Core, slots: &mut [u32; SLOT_CELLS], store: &[u8], slot: u32) -> Done
     ensures { λ r. ⌜ ((s : Fixed) (m t : List ℕ) → answered (bridgeOf s (r .core) m t (now (slots .exit))) (r .answer) ≡ releaseStep (bridgeOf s c m t (now (slots .entry))) (length (now (store .entry))) slot) ⌝ }
 {
@@ -70,17 +72,22 @@ pub fn release_in(c: Core, slots: &mut [u32; SLOT_CELLS], store: &[u8], slot: u3
     if slot < CONFIG_SLOT {
         let k = index(slot);
         let response = response_of(slots[CAUSE + k]);
+        let session = slots[SESSION + k];
+        let figures = Figures {
+            session: session,
+        };
         slots[STATE + k] = FREE;
         return Done {
             core: c,
-            answer: accepted_as(response, 0, 0, 0),
+            answer: taken_as(response, 0, figures),
         };
     }
     let response = response_of(config.response);
+    let figures = config.figures;
     let mut d = c;
     d.config = free_config();
     Done {
         core: d,
-        answer: accepted_as(response, 0, 0, config.word),
+        answer: taken_as(response, config.word, figures),
     }
 }

@@ -20,12 +20,13 @@ pub record Bridge : Type 0 where
   pub next : List ℕ
   pub kind : List ℕ
   -- by slot: free, open or finished; the burst's length; the open pieces; the place of the first failure, 4,096 for none; its
-  -- response in AXI's coding, 0 for none
+  -- response in AXI's coding, 0 for none; the session in which the read was accepted
   pub state : List ℕ
   pub size : List ℕ
   pub pieces : List ℕ
   pub fault : List ℕ
   pub cause : List ℕ
+  pub session : List ℕ
 
 -- ---- what a bridge has by tag
 
@@ -66,6 +67,9 @@ faultOf b k = getD (b .fault) k 0
 abbrev pub failureOf : Bridge → ℕ → ℕ
 failureOf b k = getD (b .cause) k 0
 
+abbrev pub sessionOf : Bridge → ℕ → ℕ
+sessionOf b k = getD (b .session) k 0
+
 -- ---- rows: all that is kept by a tag, and by a slot
 
 pub record Tag : Type 0 where
@@ -93,6 +97,7 @@ pub record Slot : Type 0 where
   pub pieces : ℕ
   pub fault : ℕ
   pub cause : ℕ
+  pub session : ℕ
 
 abbrev pub slotAt : Bridge → ℕ → Slot
 slotAt b k =
@@ -102,6 +107,7 @@ slotAt b k =
       pieces = getD (b .pieces) k 0;
       fault = getD (b .fault) k 0;
       cause = getD (b .cause) k 0;
+      session = getD (b .session) k 0;
     }
 
 -- ---- one part put anew
@@ -122,6 +128,7 @@ coreIn x b =
       pieces = b .pieces;
       fault = b .fault;
       cause = b .cause;
+      session = b .session;
     }
 
 abbrev pub putMissing : List ℕ → Bridge → Bridge
@@ -140,6 +147,7 @@ putMissing x b =
       pieces = b .pieces;
       fault = b .fault;
       cause = b .cause;
+      session = b .session;
     }
 
 abbrev pub putSent : List ℕ → Bridge → Bridge
@@ -158,6 +166,7 @@ putSent x b =
       pieces = b .pieces;
       fault = b .fault;
       cause = b .cause;
+      session = b .session;
     }
 
 abbrev pub putOwner : List ℕ → Bridge → Bridge
@@ -176,6 +185,7 @@ putOwner x b =
       pieces = b .pieces;
       fault = b .fault;
       cause = b .cause;
+      session = b .session;
     }
 
 abbrev pub putPlace : List ℕ → Bridge → Bridge
@@ -194,6 +204,7 @@ putPlace x b =
       pieces = b .pieces;
       fault = b .fault;
       cause = b .cause;
+      session = b .session;
     }
 
 abbrev pub putNext : List ℕ → Bridge → Bridge
@@ -212,6 +223,7 @@ putNext x b =
       pieces = b .pieces;
       fault = b .fault;
       cause = b .cause;
+      session = b .session;
     }
 
 abbrev pub putKind : List ℕ → Bridge → Bridge
@@ -230,6 +242,7 @@ putKind x b =
       pieces = b .pieces;
       fault = b .fault;
       cause = b .cause;
+      session = b .session;
     }
 
 abbrev pub putState : List ℕ → Bridge → Bridge
@@ -248,6 +261,7 @@ putState x b =
       pieces = b .pieces;
       fault = b .fault;
       cause = b .cause;
+      session = b .session;
     }
 
 abbrev pub putSize : List ℕ → Bridge → Bridge
@@ -266,6 +280,7 @@ putSize x b =
       pieces = b .pieces;
       fault = b .fault;
       cause = b .cause;
+      session = b .session;
     }
 
 abbrev pub putPieces : List ℕ → Bridge → Bridge
@@ -284,6 +299,7 @@ putPieces x b =
       pieces = x;
       fault = b .fault;
       cause = b .cause;
+      session = b .session;
     }
 
 abbrev pub putFault : List ℕ → Bridge → Bridge
@@ -302,6 +318,7 @@ putFault x b =
       pieces = b .pieces;
       fault = x;
       cause = b .cause;
+      session = b .session;
     }
 
 abbrev pub putCause : List ℕ → Bridge → Bridge
@@ -320,6 +337,26 @@ putCause x b =
       pieces = b .pieces;
       fault = b .fault;
       cause = x;
+      session = b .session;
+    }
+
+abbrev pub putSession : List ℕ → Bridge → Bridge
+putSession x b =
+    record {
+      settings = b .settings;
+      core = b .core;
+      missing = b .missing;
+      sent = b .sent;
+      owner = b .owner;
+      place = b .place;
+      next = b .next;
+      kind = b .kind;
+      state = b .state;
+      size = b .size;
+      pieces = b .pieces;
+      fault = b .fault;
+      cause = b .cause;
+      session = x;
     }
 
 -- ---- and one number of a tag or a slot
@@ -356,3 +393,6 @@ setFault k x b = putFault (set (b .fault) k x) b
 
 abbrev pub setCause : ℕ → ℕ → Bridge → Bridge
 setCause k x b = putCause (set (b .cause) k x) b
+
+abbrev pub setSession : ℕ → ℕ → Bridge → Bridge
+setSession k x b = putSession (set (b .session) k x) b

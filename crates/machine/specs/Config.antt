@@ -11,7 +11,7 @@ use Rattle.ecam.specs.declared.Route.the-variants.{OutOfRange, Local, Type0, Ty
 use Rattle.ecam.specs.Route.{route}
 use Rattle.refusals.specs.declared.Response.the-variants.{Nothing}
 pub use Rattle.parts.specs.Pendings.{wordPending}
-use Rattle.machine.specs.State.{Bridge, Answered, tagCount, configSlot, withConfig, openConfig, coreIn, opened, accepted, answered, refused}
+use Rattle.machine.specs.State.{Bridge, Answered, tagCount, configSlot, withConfig, openConfig, figuresNow, coreIn, opened, accepted, answered, refused}
 use Rattle.machine.specs.Memory.{filled, packet}
 pub use Rattle.parts.specs.Access.{Access, accessOf, goesOut}
 unfoldable pub use Rattle.parts.specs.Access.{configNumber, localCore}
@@ -29,7 +29,7 @@ localBridge b a w = coreIn (localCore (b .core) a w) b
 
 -- the configuration slot waits for an access
 abbrev pub configClaimed : Access → Bridge → Bridge
-configClaimed a b = coreIn (withConfig (openConfig (a .write)) (b .core)) b
+configClaimed a b = coreIn (withConfig (openConfig (a .write) (figuresNow (b .core))) (b .core)) b
 
 unfoldable pub routedBridge : Bridge → Access → Bridge
 routedBridge b a = opened (wordPending (a .write)) (configClaimed a b)

@@ -18,11 +18,11 @@ use Rattle.refusals.specs.Table.{setting}
 use Rattle.parts.specs.declared.Answer.{Answer}
 use Rattle.parts.specs.declared.Pending.{Pending}
 pub use Rattle.parts.specs.Sizes.{slotCount, slotSize, configSlot, slotFree, slotOpen, slotFinished, memoryRead, configRead, configWrite}
-pub use Rattle.machine.specs.Bridge.{Bridge, missingOf, sentOf, ownerOf, placeOf, nextAddress, kindOf, slotState, sizeOf, openPieces, faultOf, failureOf, Tag, tagAt, Slot, slotAt, coreIn, putMissing, putSent, putOwner, putPlace, putNext, putKind, putState, putSize, putPieces, putFault, putCause, setMissing, setSent, setOwner, setPlace, setNext, setKind, setState, setSize, setPieces, setFault, setCause}
+pub use Rattle.machine.specs.Bridge.{Bridge, missingOf, sentOf, ownerOf, placeOf, nextAddress, kindOf, slotState, sizeOf, openPieces, faultOf, failureOf, sessionOf, Tag, tagAt, Slot, slotAt, coreIn, putMissing, putSent, putOwner, putPlace, putNext, putKind, putState, putSize, putPieces, putFault, putCause, putSession, setMissing, setSent, setOwner, setPlace, setNext, setKind, setState, setSize, setPieces, setFault, setCause, setSession}
 pub use Rattle.verdict.specs.Verdict.{isOpen, okay, slverr, decerr}
-pub use Rattle.parts.specs.Cores.{tagCount, withRegisters, withTicks, withFree, withConfig, freeConfig, openConfig, doneConfig}
+pub use Rattle.parts.specs.Cores.{tagCount, withRegisters, withTicks, withFree, withConfig, freeConfig, openConfig, doneConfig, noFigures, figuresNow}
 unfoldable pub use Rattle.parts.specs.Cores.{raisedCore, freshCore}
-unfoldable pub use Rattle.parts.specs.Answers.{responseOf, refusalResponse, refusalChange, refusal, accepted}
+unfoldable pub use Rattle.parts.specs.Answers.{responseOf, refusalResponse, refusalChange, refusal, accepted, taken}
 unfoldable pub use Rattle.parts.specs.Numbers.{freeSlotFrom}
 
 -- ---- decode bits
@@ -104,6 +104,7 @@ freshBridge s =
       pieces = replicate slotCount 0;
       fault = replicate slotCount 0;
       cause = replicate slotCount 0;
+      session = replicate slotCount 0;
     }
 
 -- row 1: 'no bridge'; the fresh bridge of the worked examples, window 0 only, stands in its place

@@ -5,7 +5,8 @@ use mathlib.Core.List.{List, []}
 use mathlib.Core.Bool.{cond}
 use lib.ListN.{length, take, drop}
 use lib.Dec.{ltb, eqb}
-use Rattle.machine.specs.State.{Bridge, Answered, slotCount, slotSize, slotFree, withConfig, coreIn, setState, sizeOf, failureOf, freeConfig, responseOf, accepted, answered, refused}
+use Rattle.parts.specs.declared.Figures.{Figures}
+use Rattle.machine.specs.State.{Bridge, Answered, slotCount, slotSize, slotFree, withConfig, coreIn, setState, sizeOf, failureOf, sessionOf, freeConfig, responseOf, taken, answered, refused}
 unfoldable pub use Rattle.parts.specs.Numbers.{stateIn, takeNumber}
 
 abbrev pub stateOf : Bridge → ℕ → ℕ
@@ -25,11 +26,15 @@ slotFreed k b =
     cond (ltb k slotCount) (setState k slotFree b)
     (coreIn (withConfig freeConfig (b .core)) b)
 
--- 'number, response and data word'; the word 'is 0 for writes and for memory reads'
+-- the figures that are kept of a read
+abbrev pub figuresOf : Bridge → ℕ → Figures
+figuresOf b k = record { session = sessionOf b k }
+
+-- 'number, response and data word', and the figures; the word 'is 0 for writes and for memory reads'
 unfoldable pub releaseStep : Bridge → ℕ → ℕ → Answered
 releaseStep b room k =
     cond (eqb (takeRefusal b room k) 0)
     (answered (slotFreed k b)
-    (cond (ltb k slotCount) (accepted (responseOf (failureOf b k)) 0 0 0)
-    (accepted (responseOf (b .core .config .response)) 0 0 (b .core .config .word))))
+    (cond (ltb k slotCount) (taken (responseOf (failureOf b k)) 0 (figuresOf b k))
+    (taken (responseOf (b .core .config .response)) (b .core .config .word) (b .core .config .figures))))
     (refused (takeRefusal b room k) b)

@@ -10,7 +10,7 @@ use Rattle.verdict.specs.declared.Cause.the-variants.{Timeout}
 use Rattle.machine.specs.State.{Bridge, Answered, tagCount, slotCount, slotOpen, slotFinished, withTicks, withFree, withConfig, coreIn, putMissing, setState, setPieces, setCause, slotState, sizeOf, raisedCore, missingOf, sentOf, placeOf, ownerOf, isOpen, shut, slverr}
 use Rattle.machine.specs.Completions.{storeSize, Held, held, zeroed, failed, pieceClosed, configDone, plain}
 pub use Rattle.ecam.specs.Registers.{withLink}
-pub use Rattle.parts.specs.Cores.{linkIn}
+pub use Rattle.parts.specs.Cores.{linkIn, nextSession, sessionAfter, linkTo}
 pub use Rattle.parts.specs.Access.{dropConfig}
 pub use Rattle.parts.specs.Numbers.{nextTick, ageOf}
 
@@ -80,12 +80,12 @@ linkLost b =
     (raisedCore linkDownBit (linkIn false (withFree (2 ^ tagCount - 1) (withConfig (dropConfig (b .core .config)) (b .core)))))
     (putMissing (replicate tagCount 0) b)
 
--- 'Going up, or repeating the present link state, changes nothing else'
+-- 'Going up, or repeating the present link state, changes nothing else', but that a down link that goes up begins a session
 unfoldable pub linked : Bool → Held → Held
 linked up h =
     cond (ltb (length (h .store)) storeSize) h
     (cond (not up && h .bridge .core .registers .link) (dropSlots (held (linkLost (h .bridge)) (h .store)) slotCount)
-    (held (coreIn (linkIn up (h .bridge .core)) (h .bridge)) (h .store)))
+    (held (coreIn (linkTo up (h .bridge .core)) (h .bridge)) (h .store)))
 
 abbrev pub linkStep : Bool → Bridge → List ℕ → Answered
 linkStep up b store =

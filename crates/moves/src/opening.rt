@@ -12,6 +12,7 @@ use parts::Core;
 use parts::FAULT;
 use parts::OPEN;
 use parts::PIECES;
+use parts::SESSION;
 use parts::SIZE;
 use parts::SLOT_CELLS;
 use parts::STATE;
@@ -78,15 +79,16 @@ pub fn read_turn(
     }
 }
 
-// A slot waits for a burst.
-pub fn claim(slots: &mut [u32; SLOT_CELLS], slot: u32, limit: u32, q: Burst)
+// A slot waits for a burst, which is accepted in this session.
+pub fn claim(slots: &mut [u32; SLOT_CELLS], slot: u32, limit: u32, session: u32, q: Burst)
     requires { ⌜ slot < slotCount ⌝ }
-    ensures { λ _. ⌜ ((s : Fixed) (d : Core) (m t : List ℕ) → s .settings .reads ≡ limit → bridgeOf s d m t (now (slots .exit)) ≡ claimed slot q (bridgeOf s d m t (now (slots .entry)))) ⌝ }
+    ensures { λ _. ⌜ ((s : Fixed) (d : Core) (m t : List ℕ) → s .settings .reads ≡ limit → d .session ≡ session → bridgeOf s d m t (now (slots .exit)) ≡ claimed slot q (bridgeOf s d m t (now (slots .entry)))) ⌝ }
 {
     let first = q.start;
     let n = burst::length_of(q);
     let count = burst::piece_count(limit, first.0, n);
     let k = index(slot);
+    slots[SESSION + k] = session;
     slots[CAUSE + k] = 0;
     slots[FAULT + k] = 4096;
     slots[PIECES + k] = count;

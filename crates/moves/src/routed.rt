@@ -12,6 +12,7 @@ use parts::TAG_CELLS;
 use parts::TAGS;
 use parts::access::local_core;
 use parts::answers::accepted_as;
+use parts::cores::figures_now;
 use parts::requests::word_pending;
 use refusals::Response;
 use tlp::request::Request;
@@ -30,7 +31,7 @@ ghost use Rattle.parts.specs.Answers.{accepted};
 ghost use Rattle.parts.specs.Access.{areaSize, accessOf};
 ghost use Rattle.machine.specs.Routed.{routedRequest, payloadOf};
 ghost use Rattle.machine.specs.contracts.Passing.{stayed};
-ghost use Rattle.machine.specs.State.{opened, openConfig};
+ghost use Rattle.machine.specs.State.{opened, openConfig, figuresNow};
 ghost use Rattle.machine.specs.Config.{wordPending};
 ghost use Rattle.machine.specs.contracts.Tables.{Fixed, bridgeOf};
 
@@ -88,19 +89,21 @@ pub fn routed_in(
     area: &mut [u8],
 ) -> Done
     requires { ⌜ (lowest tagCount (c .free) < tagCount) × (areaSize ≤ length (now area)) ⌝ }
-    ensures tables { λ r. ⌜ ((s : Fixed) (y : List ℕ) → bridgeOf s (r .core) (now (missing .exit)) (now (tags .exit)) y ≡ opened (wordPending write) (coreIn (withConfig (openConfig write) (coreFrom c (s .cells))) (bridgeOf s c (now (missing .entry)) (now (tags .entry)) y))) ⌝ }
+    ensures tables { λ r. ⌜ ((s : Fixed) (y : List ℕ) → bridgeOf s (r .core) (now (missing .exit)) (now (tags .exit)) y ≡ opened (wordPending write) (coreIn (withConfig (openConfig write (figuresNow (coreFrom c (s .cells)))) (coreFrom c (s .cells))) (bridgeOf s c (now (missing .entry)) (now (tags .entry)) y))) ⌝ }
     ensures answer { λ r. ⌜ r .answer ≡ accepted response.Nothing configSlot (length (packet (routedRequest x (accessOf offset write strobes word) requester (lowest tagCount (c .free))) (payloadOf write word))) 0 ⌝ }
     ensures area { λ r. ⌜ now (area .exit) ≡ filled (packet (routedRequest x (accessOf offset write strobes word) requester (lowest tagCount (c .free))) (payloadOf write word)) (now (area .entry)) ⌝ }
 {
     let tag = tags::lowest(c.free);
     let q = ecam::config_request(x, offset, write, strobes, requester, tag);
     let n = send_in(q, write, word, area);
+    let figures = figures_now(c);
     let mut d = c;
     let config = ConfigSlot {
         state: OPEN,
         write: write,
         response: 0,
         word: 0,
+        figures: figures,
     };
     d.config = config;
     let e = open_in(d, missing, tags, word_pending(write));

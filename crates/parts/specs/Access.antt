@@ -7,7 +7,7 @@ use Rattle.parts.specs.declared.ConfigSlot.{ConfigSlot}
 use Rattle.verdict.specs.declared.Cause.the-variants.{Timeout, UnsupportedRequest, RequestRetry, CompleterAbort, Poison}
 use Rattle.parts.specs.Sizes.{slotFree, slotOpen}
 pub use Rattle.parts.specs.Sizes.{areaSize}
-use Rattle.parts.specs.Cores.{Core, tagCount, withRegisters, withConfig, doneConfig}
+use Rattle.parts.specs.Cores.{Core, tagCount, withRegisters, withConfig, doneConfig, figuresNow}
 use Rattle.verdict.specs.Verdict.{slverr, okay}
 use Rattle.verdict.specs.declared.Verdict.{Verdict}
 use Rattle.verdict.specs.declared.Verdict.the-variants.{Unexpected, Good, Poisoned, Failed}
@@ -53,13 +53,13 @@ configNumber c x room =
 unfoldable pub localCore : Core → Access → ℕ → Core
 localCore c a w =
     withRegisters (cond (a .write) (localWrite (c .registers) w (a .strobes) (a .word)) (c .registers))
-    (withConfig (doneConfig (a .write) okay (cond (a .write) 0 (localRead (c .registers) w))) c)
+    (withConfig (doneConfig (a .write) okay (cond (a .write) 0 (localRead (c .registers) w)) (figuresNow c)) c)
 
 -- ---- its slot
 
--- finished
+-- finished; its session is that of its acceptance
 abbrev pub configDone : ConfigSlot → ℕ → ℕ → ConfigSlot
-configDone c code word = doneConfig (c .write) code word
+configDone c code word = doneConfig (c .write) code word (c .figures)
 
 -- 'UR read gives OKAY and all ones; UR write SLVERR. CRS, CA, poison, timeout: SLVERR, data 0'
 unfoldable pub configAnswer : ConfigSlot → List ℕ → Verdict → ConfigSlot

@@ -5,7 +5,9 @@ use crate::Core;
 use crate::FINISHED;
 use crate::FREE;
 use crate::OPEN;
+use crate::answers::no_figures;
 use crate::answers::raise_in;
+use crate::cores::figures_now;
 use common::CFG_TIMEOUT;
 use ecam::Route;
 use messages::queue::DEPTH;
@@ -80,6 +82,7 @@ pub fn local_core(
     ensures { λ r. ⌜ coreFrom r (now (cells .entry)) ≡ localCore (coreFrom c (now (cells .entry))) (accessOf offset write strobes word) w ⌝ }
 {
     let registers = c.registers;
+    let figures = figures_now(c);
     let mut d = c;
     if write {
         d.registers = ecam::registers::local_write(registers, w, strobes, word);
@@ -88,6 +91,7 @@ pub fn local_core(
             write: true,
             response: 0,
             word: 0,
+            figures: figures,
         };
         d.config = config;
         return d;
@@ -98,6 +102,7 @@ pub fn local_core(
         write: false,
         response: 0,
         word: shown,
+        figures: figures,
     };
     d.config = config;
     d
@@ -107,11 +112,13 @@ pub fn local_core(
 pub fn config_done(c: ConfigSlot, code: u32, word: u32) -> ConfigSlot
     ensures { λ r. ⌜ r ≡ configDone c code word ⌝ }
 {
+    let figures = c.figures;
     ConfigSlot {
         state: FINISHED,
         write: c.write,
         response: code,
         word: word,
+        figures: figures,
     }
 }
 
@@ -163,14 +170,8 @@ pub fn config_timeout(c: Core) -> Core
     ensures { λ r. ⌜ ((cells : List ℕ) → coreFrom r cells ≡ raisedCore cfgTimeout (withConfig (configDone (c .config) slverr 0) (coreFrom c cells))) ⌝ }
 {
     let config = c.config;
-    let done = ConfigSlot {
-        state: FINISHED,
-        write: config.write,
-        response: 2,
-        word: 0,
-    };
     let mut d = c;
-    d.config = done;
+    d.config = config_done(config, 2, 0);
     raise_in(d, CFG_TIMEOUT)
 }
 
@@ -179,12 +180,7 @@ pub fn drop_config(c: ConfigSlot) -> ConfigSlot
     ensures { λ r. ⌜ r ≡ dropConfig c ⌝ }
 {
     if c.state == OPEN {
-        return ConfigSlot {
-            state: FINISHED,
-            write: c.write,
-            response: 2,
-            word: 0,
-        };
+        return config_done(c, 2, 0);
     }
     c
 }
@@ -198,5 +194,6 @@ pub fn free_config() -> ConfigSlot
         write: false,
         response: 0,
         word: 0,
+        figures: no_figures(),
     }
 }

@@ -2,6 +2,7 @@
 use crate::Answer;
 use crate::Core;
 use crate::Done;
+use crate::Figures;
 use common::SLAVE_ILLEGAL_BURST;
 use common::SLAVE_UNEXPECTED_COMPLETION;
 use refusals::Response;
@@ -9,7 +10,7 @@ use refusals::UNEXPECTED;
 use refusals::WRONG_BURST;
 use refusals::refusal_response;
 ghost use Rattle.parts.specs.Cores.{raisedCore};
-ghost use Rattle.parts.specs.Answers.{plain, accepted, refusal, refusalChange, responseOf};
+ghost use Rattle.parts.specs.Answers.{plain, noFigures, taken, accepted, refusal, refusalChange, responseOf};
 ghost use mathlib.Core.Path.{_≡_};
 ghost use mathlib.Core.List.{List};
 ghost use Prim.Native.Nat.{ℕ};
@@ -52,6 +53,15 @@ pub fn refusal_change(n: u32, c: Core) -> Core
     c
 }
 
+// The figures of every answer but an accepted release's.
+pub fn no_figures() -> Figures
+    ensures { λ r. ⌜ r ≡ noFigures ⌝ }
+{
+    Figures {
+        session: 0,
+    }
+}
+
 pub fn refusal_of(n: u32) -> Answer
     ensures { λ r. ⌜ r ≡ refusal n ⌝ }
 {
@@ -61,6 +71,7 @@ pub fn refusal_of(n: u32) -> Answer
         slot: 0,
         length: 0,
         word: 0,
+        figures: no_figures(),
     }
 }
 
@@ -73,6 +84,21 @@ pub fn accepted_as(response: Response, slot: u32, sent: usize, word: u32) -> Ans
         slot: slot,
         length: sent,
         word: word,
+        figures: no_figures(),
+    }
+}
+
+// An accepted release.
+pub fn taken_as(response: Response, word: u32, figures: Figures) -> Answer
+    ensures { λ r. ⌜ r ≡ taken response word figures ⌝ }
+{
+    Answer {
+        number: 0,
+        response: response,
+        slot: 0,
+        length: 0,
+        word: word,
+        figures: figures,
     }
 }
 

@@ -1,5 +1,6 @@
 // The core: fresh, and after a change of the link.
 use crate::Core;
+use crate::Figures;
 use crate::access::drop_config;
 use crate::access::free_config;
 use crate::answers::raise_in;
@@ -8,7 +9,7 @@ use ecam::registers::fresh_registers;
 ghost use Prim.Native.Nat.{ℕ, _-_, _^_};
 ghost use mathlib.Core.List.{List};
 ghost use mathlib.Core.Bool.{false};
-ghost use Rattle.parts.specs.Cores.{tagCount, withFree, withConfig, raisedCore, freshCore, linkIn};
+ghost use Rattle.parts.specs.Cores.{tagCount, withFree, withConfig, raisedCore, freshCore, figuresNow, linkIn, nextSession, linkTo};
 ghost use Rattle.common.specs.Decode.{linkDownBit};
 ghost use mathlib.Core.Path.{_≡_};
 ghost use Rattle.parts.specs.Access.{dropConfig};
@@ -20,6 +21,7 @@ pub fn fresh_core() -> Core
     Core {
         registers: fresh_registers(),
         ticks: 0,
+        session: 0,
         free: 0xFFFF_FFFF,
         config: free_config(),
     }
@@ -33,6 +35,34 @@ pub fn with_link(c: Core, up: bool) -> Core
     let mut d = c;
     d.registers = r;
     d
+}
+
+// The figures of an access that is accepted now.
+pub fn figures_now(c: Core) -> Figures
+    ensures { λ r. ⌜ ((cells : List ℕ) → r ≡ figuresNow (coreFrom c cells)) ⌝ }
+{
+    Figures {
+        session: c.session,
+    }
+}
+
+pub fn next_session(x: u32) -> u32
+    ensures { λ r. ⌜ r ≡ nextSession x ⌝ }
+{
+    std::num::wrapping_add_u32(x, 1)
+}
+
+// The link goes up, which begins a session if it was down, or the event repeats its present state.
+pub fn link_to(c: Core, up: bool) -> Core
+    ensures { λ r. ⌜ ((cells : List ℕ) → coreFrom r cells ≡ linkTo up (coreFrom c cells)) ⌝ }
+{
+    let registers = c.registers;
+    if up & !registers.link {
+        let mut d = c;
+        d.session = next_session(c.session);
+        return with_link(d, up);
+    }
+    with_link(c, up)
 }
 
 // Every tag is free, an open configuration access is finished, bit 0 is set.

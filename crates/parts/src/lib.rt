@@ -51,7 +51,7 @@ pub const KIND: usize = 4 * TAGS;
 pub const TAG_CELLS: usize = 5 * TAGS;
 
 // The columns of the table by slot: the state; the burst's length; the open pieces; the place of the first failure, 4,096
-// for none; its response in AXI's coding, 0 for none.
+// for none; its response in AXI's coding, 0 for none; the session in which the read was accepted.
 pub const STATE: usize = 0;
 
 pub const SIZE: usize = SLOTS;
@@ -62,7 +62,15 @@ pub const FAULT: usize = 3 * SLOTS;
 
 pub const CAUSE: usize = 4 * SLOTS;
 
-pub const SLOT_CELLS: usize = 5 * SLOTS;
+pub const SESSION: usize = 5 * SLOTS;
+
+pub const SLOT_CELLS: usize = 6 * SLOTS;
+
+// The figures of a kept answer. Only an accepted release reports them; every other answer has 0 for each.
+pub struct Figures {
+    // The session in which the access was accepted.
+    pub session: u32,
+}
 
 // The configuration slot.
 pub struct ConfigSlot {
@@ -72,6 +80,7 @@ pub struct ConfigSlot {
     // The finished access's response, in AXI's coding.
     pub response: u32,
     pub word: u32,
+    pub figures: Figures,
 }
 
 // What is kept of a request by its tag: the slot of its bytes (8 for configuration), their place there, how many, the PCIe
@@ -88,6 +97,8 @@ pub struct Pending {
 pub struct Core {
     pub registers: Registers,
     pub ticks: u32,
+    // How often a down link went up; it starts again at zero.
+    pub session: u32,
     // The free tags, as the ones of a word.
     pub free: u32,
     pub config: ConfigSlot,
@@ -101,6 +112,7 @@ pub struct Answer {
     // How many bytes were sent.
     pub length: usize,
     pub word: u32,
+    pub figures: Figures,
 }
 
 // What an event on lent tables hands back.

@@ -6,7 +6,7 @@ use Rattle.address.specs.declared.Settings.{Settings}
 use Rattle.parts.specs.declared.Core as code
 use Rattle.parts.specs.contracts.Struct.{coreFrom}
 use Rattle.parts.specs.Sizes.{tagCount, slotCount}
-use Rattle.parts.specs.contracts.Columns.{column, sentColumn, ownerColumn, placeColumn, nextColumn, kindColumn, stateColumn, sizeColumn, piecesColumn, faultColumn, causeColumn}
+use Rattle.parts.specs.contracts.Columns.{column, sentColumn, ownerColumn, placeColumn, nextColumn, kindColumn, stateColumn, sizeColumn, piecesColumn, faultColumn, causeColumn, sessionColumn}
 use Rattle.machine.specs.Bridge.{Bridge}
 use Rattle.machine.specs.Completions.{Held, held}
 
@@ -35,6 +35,7 @@ bridgeOf f c m t x =
       pieces = column slotCount piecesColumn x;
       fault = column slotCount faultColumn x;
       cause = column slotCount causeColumn x;
+      session = column slotCount sessionColumn x;
     }
 
 -- the same with the store

@@ -46,5 +46,8 @@ faultColumn = 3 * slotCount
 abbrev pub causeColumn : ℕ
 causeColumn = 4 * slotCount
 
+abbrev pub sessionColumn : ℕ
+sessionColumn = 5 * slotCount
+
 abbrev pub slotCells : ℕ
-slotCells = 5 * slotCount
+slotCells = 6 * slotCount

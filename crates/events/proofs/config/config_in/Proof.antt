@@ -1,7 +1,7 @@
 use Rattle.parts.specs.contracts.Struct.{coreFrom}
 use Rattle.machine.specs.Bridge.{coreIn}
 use Rattle.parts.specs.declared.Answer.{Answer}
-use Rattle.parts.specs.Cores.{withConfig, openConfig}
+use Rattle.parts.specs.Cores.{withConfig, openConfig, figuresNow}
 use Rattle.machine.specs.State.{opened}
 use Rattle.machine.specs.Config.{wordPending}
 use mathlib.Core.Path.{_≡_, refl, sym, ap, subst, _∙_}
@@ -67,7 +67,7 @@ returns-2 c = let a = c .before .before .before .before .before .before .before 
     let n = c .before .before .routed-in .ensures in (
       λ s x e f.
           ap (λ (y : Bridge). answered y (c .before .before .routed-in .result .answer)) (n .0 (fixed s (now (a .cells))) x)
-          ∙ (ap (λ (z : Answer). answered (opened (wordPending (a .write)) (coreIn (withConfig (openConfig (a .write)) (coreFrom (a .c) (now (a .cells)))) (bridgeOf (fixed s (now (a .cells))) (a .c) (now (a .missing)) (now (a .tags)) x))) z) (n .1 .0)
+          ∙ (ap (λ (z : Answer). answered (opened (wordPending (a .write)) (coreIn (withConfig (openConfig (a .write) (figuresNow (coreFrom (a .c) (now (a .cells))))) (coreFrom (a .c) (now (a .cells)))) (bridgeOf (fixed s (now (a .cells))) (a .c) (now (a .missing)) (now (a .tags)) x))) z) (n .1 .0)
           ∙ sym (routed-step (bridgeOf (fixed s (now (a .cells))) (a .c) (now (a .missing)) (now (a .tags)) x) _ _ _ _ e f (c .before .before .before .before .before .before .before .before .before .before .route-of .ensures (now (a .cells))) (sym (c .before .before .before .before .before .before .before .goes-out .ensures) ∙ c .before .before .before .before .before .before .if2 .taken) _ _ (c .before .before .before .before .before .before .before .before .before .config-number .ensures (now (a .cells))) (c .before .before .before .before .before .before .before .before .if1 .left))),
       λ s x e f.
           n .1 .1

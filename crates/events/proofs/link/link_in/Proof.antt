@@ -22,7 +22,7 @@ use Rattle.events.proofs.link.link_in.Lts as lts
 use Rattle.events.proofs.link.drop_slots_in.Reads as drop-slots-in-reads
 use Rattle.parts.proofs.answers.plain_answer.Reads as plain-answer-reads
 use Rattle.parts.proofs.cores.lost_core.Reads as lost-core-reads
-use Rattle.parts.proofs.cores.with_link.Reads as with-link-reads
+use Rattle.parts.proofs.cores.link_to.Reads as link-to-reads
 
 plain-answer-requires : tie.Need-plain-answer-requires
 plain-answer-requires c κs = search needs
@@ -50,8 +50,8 @@ returns-2 c = let a = c .before .before .before .before .before .before .before 
   λ s t. rw (le-ltb _ _ (c .before .before .before .before .before .before .before .before .before .before .if1 .left), c .before .before .before .before .before .before .before .before .if2 .taken, c .before .lost-core .ensures (s .cells)) (rw (c .before .lost-core .ensures (s .cells)) at (c .before .before .before .before .drop-slots-in .ensures s (c .before .lost-core .result) (replicate tagCount 0) t)),
 )
 
-with-link-requires : tie.Need-with-link-requires
-with-link-requires c κs = search needs
+link-to-requires : tie.Need-link-to-requires
+link-to-requires c κs = search needs
 
 plain-answer-requires-3 : tie.Need-plain-answer-requires-3
 plain-answer-requires-3 c κs = search needs
@@ -60,7 +60,7 @@ returns-3 : tie.Need-returns-3
 unfolding linked
 returns-3 c = (
   rw (le-ltb _ _ (c .before .before .before .before .if1 .left)) (c .plain-answer3 .ensures),
-  λ s t. rw (le-ltb _ _ (c .before .before .before .before .if1 .left), c .before .before .if2 .left, c .before .with-link .ensures),
+  λ s t. rw (le-ltb _ _ (c .before .before .before .before .if1 .left), c .before .before .if2 .left, c .before .link-to .ensures),
 )
 
 pub link-in-spec : {M : Type 1} → statement M
@@ -74,6 +74,6 @@ link-in-spec =
     plain-answer-requires-2
     same-length
     returns-2
-    with-link-requires
+    link-to-requires
     plain-answer-requires-3
     returns-3)

@@ -90,7 +90,7 @@ returns-2 c = let a = c .before .before .before .before .before .before .before 
           (read-done b (bridgeOf (fixed (a .s) cells) (a .c) (now (a .missing)) (now (a .tags)) x)
           (bridgeOf (fixed (a .s) cells) (t .result .core) (t .last .1 .1 .0) (t .last .1 .1 .1 .0) x) (a .q) (c .before .before .before .before .before .before .before .before .before .before .before .before .free-slot .result) (t .result .at) (now (a .area))
           (t .last .1 .1 .1 .1 .1 .1 .0) es z
-          (c .before .before .before .before .before .before .before .before .claim .ensures (fixed (a .s) cells) (a .c) (now (a .missing)) (now (a .tags)) refl)
+          (c .before .before .before .before .before .before .before .before .claim .ensures (fixed (a .s) cells) (a .c) (now (a .missing)) (now (a .tags)) refl refl)
           (t .ensures .0 cells x) (t .ensures .1 .0 cells x) (t .ensures .1 .1 cells x) .0),
       λ cells.
           let b = bridgeOf (fixed (a .s) cells) (a .c) (now (a .missing)) (now (a .tags)) (now (a .slots)) in
@@ -100,7 +100,7 @@ returns-2 c = let a = c .before .before .before .before .before .before .before 
           (read-done b (bridgeOf (fixed (a .s) cells) (a .c) (now (a .missing)) (now (a .tags)) x)
           (bridgeOf (fixed (a .s) cells) (t .result .core) (t .last .1 .1 .0) (t .last .1 .1 .1 .0) x) (a .q) (c .before .before .before .before .before .before .before .before .before .before .before .before .free-slot .result) (t .result .at) (now (a .area))
           (t .last .1 .1 .1 .1 .1 .1 .0) es z
-          (c .before .before .before .before .before .before .before .before .claim .ensures (fixed (a .s) cells) (a .c) (now (a .missing)) (now (a .tags)) refl)
+          (c .before .before .before .before .before .before .before .before .claim .ensures (fixed (a .s) cells) (a .c) (now (a .missing)) (now (a .tags)) refl refl)
           (t .ensures .0 cells x) (t .ensures .1 .0 cells x) (t .ensures .1 .1 cells x) .1),
     )
 

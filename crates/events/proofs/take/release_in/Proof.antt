@@ -12,8 +12,8 @@ use Rattle.parts.specs.declared.Core.{Core}
 use Rattle.parts.specs.Sizes.{tagCount, slotCount}
 use Rattle.parts.proofs.Columns.{get}
 use Rattle.machine.specs.State.{Bridge}
-use Rattle.parts.specs.contracts.Columns.{causeColumn}
-use Rattle.machine.specs.State.{answered, accepted, responseOf, refused}
+use Rattle.parts.specs.contracts.Columns.{causeColumn, sessionColumn}
+use Rattle.machine.specs.State.{answered, taken, responseOf, refused}
 use Rattle.machine.specs.Take.{slotFreed, releaseStep}
 use Rattle.machine.proofs.Tables.{put-state}
 use borrow.Author.Needs.{needs}
@@ -23,9 +23,9 @@ use Rattle.events.proofs.take.release_in.Reads as reads
 use Rattle.events.proofs.take.release_in.Lts as lts
 use Rattle.common.proofs.index.Reads as index-reads
 use Rattle.parts.proofs.access.free_config.Reads as free-config-reads
-use Rattle.parts.proofs.answers.accepted_as.Reads as accepted-as-reads
 use Rattle.parts.proofs.answers.refuse.Reads as refuse-reads
 use Rattle.parts.proofs.answers.response_of.Reads as response-of-reads
+use Rattle.parts.proofs.answers.taken_as.Reads as taken-as-reads
 use Rattle.parts.proofs.numbers.number_for.Reads as number-for-reads
 use Rattle.parts.proofs.numbers.state_in.Reads as state-in-reads
 
@@ -57,6 +57,15 @@ element-copy-out-response-of c = search needs
 response-of-requires : tie.Need-response-of-requires
 response-of-requires c κs = search needs
 
+add-session : tie.Need-add-session
+add-session c = search needs
+
+mul-session : tie.Need-mul-session
+mul-session c = search needs
+
+element-copy-out-session : tie.Need-element-copy-out-session
+element-copy-out-session c = search needs
+
 add-slots : tie.Need-add-slots
 add-slots c = search needs
 
@@ -66,17 +75,17 @@ mul-slots c = search needs
 element-write-slots : tie.Need-element-write-slots
 element-write-slots c = search needs
 
-accepted-as-requires : tie.Need-accepted-as-requires
-accepted-as-requires c κs = search needs
+taken-as-requires : tie.Need-taken-as-requires
+taken-as-requires c κs = search needs
 
 returns-2 : tie.Need-returns-2
 unfolding releaseStep slotFreed
 returns-2 c = λ s m t.
-    let a = c .before .before .before .before .before .before .before .before .before .before .before .args in
+    let a = c .before .before .before .before .before .before .before .before .before .before .before .before .args in
     rw
-    (← c .before .before .before .before .before .before .before .state-in .ensures, ← c .before .before .before .before .before .before .number-for .ensures, eq-eqb _ _ (c .before .before .before .before .before .if1 .left), lt-ltb _ _ (c .before .before .before .before .if2 .taken), c .accepted-as .ensures, c .before .response-of .ensures, c .before .before .before .index .ensures .0, get slotCount causeColumn (now (a .slots)) (a .slot) (c .before .before .before .before .if2 .taken))
-    (ap (λ (y : Bridge). answered y (accepted (responseOf (getD (now (a .slots)) (causeColumn + a .slot) 0)) 0 0 0))
-    (put-state s (a .c) m t (now (a .slots)) (a .slot) 0 (c .before .before .before .before .if2 .taken)))
+    (← c .before .before .before .before .before .before .before .before .state-in .ensures, ← c .before .before .before .before .before .before .before .number-for .ensures, eq-eqb _ _ (c .before .before .before .before .before .before .if1 .left), lt-ltb _ _ (c .before .before .before .before .before .if2 .taken), c .taken-as .ensures, c .before .before .response-of .ensures, c .before .before .before .before .index .ensures .0, get slotCount causeColumn (now (a .slots)) (a .slot) (c .before .before .before .before .before .if2 .taken), get slotCount sessionColumn (now (a .slots)) (a .slot) (c .before .before .before .before .before .if2 .taken))
+    (ap (λ (y : Bridge). answered y (taken (responseOf (getD (now (a .slots)) (causeColumn + a .slot) 0)) 0 (record { session = getD (now (a .slots)) (sessionColumn + a .slot) 0 })))
+    (put-state s (a .c) m t (now (a .slots)) (a .slot) 0 (c .before .before .before .before .before .if2 .taken)))
 
 response-of-requires-2 : tie.Need-response-of-requires-2
 response-of-requires-2 c κs = search needs
@@ -84,13 +93,13 @@ response-of-requires-2 c κs = search needs
 free-config-requires : tie.Need-free-config-requires
 free-config-requires c κs = search needs
 
-accepted-as-requires-2 : tie.Need-accepted-as-requires-2
-accepted-as-requires-2 c κs = search needs
+taken-as-requires-2 : tie.Need-taken-as-requires-2
+taken-as-requires-2 c κs = search needs
 
 returns-3 : tie.Need-returns-3
 unfolding releaseStep slotFreed
 returns-3 c = λ s m t.
-    rw (← c .before .before .before .before .before .before .state-in .ensures, ← c .before .before .before .before .before .number-for .ensures, eq-eqb _ _ (c .before .before .before .before .if1 .left), le-ltb _ _ (c .before .before .before .if2 .left), c .accepted-as2 .ensures, c .before .before .response-of2 .ensures, c .before .free-config .ensures)
+    rw (← c .before .before .before .before .before .before .before .state-in .ensures, ← c .before .before .before .before .before .before .number-for .ensures, eq-eqb _ _ (c .before .before .before .before .before .if1 .left), le-ltb _ _ (c .before .before .before .before .if2 .left), c .taken-as2 .ensures, c .before .before .before .response-of2 .ensures, c .before .free-config .ensures)
 
 pub release-in-spec : {M : Type 1} → statement M
 release-in-spec =
@@ -105,12 +114,15 @@ release-in-spec =
     mul-response-of
     element-copy-out-response-of
     response-of-requires
+    add-session
+    mul-session
+    element-copy-out-session
     add-slots
     mul-slots
     element-write-slots
-    accepted-as-requires
+    taken-as-requires
     returns-2
     response-of-requires-2
     free-config-requires
-    accepted-as-requires-2
+    taken-as-requires-2
     returns-3)

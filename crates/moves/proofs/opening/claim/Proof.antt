@@ -8,10 +8,11 @@ use denote.Ref.{now}
 use borrow.Author.Tests.{lt-ltb, le-ltb, le-leb, lt-leb, eq-eqb, ne-eqb}
 use Rattle.parts.specs.Sizes.{tagCount, slotCount}
 use Rattle.parts.proofs.Columns.{get}
-use Rattle.machine.specs.Bridge.{Bridge, setState, setSize, setPieces, setFault, setCause, setMissing, setSent, setOwner, setPlace, setNext, setKind}
-use Rattle.parts.specs.contracts.Columns.{stateColumn, sizeColumn, piecesColumn, faultColumn, causeColumn}
-use Rattle.machine.proofs.Tables.{put-state, put-size, put-pieces, put-fault, put-cause}
+use Rattle.machine.specs.Bridge.{Bridge, setState, setSize, setPieces, setFault, setCause, setSession, setMissing, setSent, setOwner, setPlace, setNext, setKind}
+use Rattle.parts.specs.contracts.Columns.{stateColumn, sizeColumn, piecesColumn, faultColumn, causeColumn, sessionColumn}
+use Rattle.machine.proofs.Tables.{put-state, put-size, put-pieces, put-fault, put-cause, put-session}
 use Rattle.machine.specs.Memory.{claimed}
+use Rattle.machine.specs.contracts.Tables.{bridgeOf}
 use borrow.Author.Needs.{needs}
 use Rattle.moves.proofs.opening.claim.Statement.{statement}
 use Rattle.moves.proofs.opening.claim.Tie as tie
@@ -75,15 +76,25 @@ mul-slots-5 c = search needs
 element-write-slots-5 : tie.Need-element-write-slots-5
 element-write-slots-5 c = search needs
 
+add-slots-6 : tie.Need-add-slots-6
+add-slots-6 c = search needs
+
+mul-slots-6 : tie.Need-mul-slots-6
+mul-slots-6 c = search needs
+
+element-write-slots-6 : tie.Need-element-write-slots-6
+element-write-slots-6 c = search needs
+
 returns : tie.Need-returns
 unfolding claimed
-returns c = λ s d m t e.
+returns c = λ s d m t e f.
     let a = c .before .before .before .before .args in
     let k = c .index .result in
     let b : k < slotCount = rw (c .index .ensures .0) (c .before .before .before .before .pre) in
     let n = c .before .before .length-of .result in
     let q = c .before .piece-count .result in
-    let x₁ = set (now (a .slots)) (causeColumn + k) 0 in
+    let x₀ = set (now (a .slots)) (sessionColumn + k) (a .session) in
+    let x₁ = set x₀ (causeColumn + k) 0 in
     let x₂ = set x₁ (faultColumn + k) 4096 in
     let x₃ = set x₂ (piecesColumn + k) q in
     let x₄ = set x₃ (sizeColumn + k) n in
@@ -94,7 +105,12 @@ returns c = λ s d m t e.
     (put-size s d m t x₃ k n b
     ∙ ap (setSize k n)
     (put-pieces s d m t x₂ k q b
-    ∙ ap (setPieces k q) (put-fault s d m t x₁ k 4096 b ∙ ap (setFault k 4096) (put-cause s d m t (now (a .slots)) k 0 b)))))
+    ∙ ap (setPieces k q)
+    (put-fault s d m t x₁ k 4096 b
+    ∙ ap (setFault k 4096)
+    (put-cause s d m t x₀ k 0 b
+    ∙ ap (setCause k 0)
+    (put-session s d m t (now (a .slots)) k (a .session) b ∙ ap (λ z. setSession k z (bridgeOf s d m t (now (a .slots)))) (sym f)))))))
 
 pub claim-spec : {M : Type 1} → statement M
 claim-spec =
@@ -118,4 +134,7 @@ claim-spec =
     add-slots-5
     mul-slots-5
     element-write-slots-5
+    add-slots-6
+    mul-slots-6
+    element-write-slots-6
     returns)

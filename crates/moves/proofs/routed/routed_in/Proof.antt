@@ -9,6 +9,7 @@ use Rattle.moves.proofs.routed.send_in.Reads as send-in-reads
 use Rattle.parts.proofs.requests.word_pending.Reads as word-pending-reads
 use Rattle.moves.proofs.tagged.open_in.Reads as open-in-reads
 use Rattle.parts.proofs.answers.accepted_as.Reads as accepted-as-reads
+use Rattle.parts.proofs.cores.figures_now.Reads as figures-now-reads
 use Rattle.tags.proofs.lowest.Reads as lowest-reads
 
 lowest-requires : tie.Need-lowest-requires
@@ -19,6 +20,9 @@ config-request-requires c κs = search needs
 
 send-in-requires : tie.Need-send-in-requires
 send-in-requires c κs = search needs
+
+figures-now-requires : tie.Need-figures-now-requires
+figures-now-requires c κs = search needs
 
 word-pending-requires : tie.Need-word-pending-requires
 word-pending-requires c κs = search needs
@@ -34,10 +38,10 @@ same-length c = search needs
 
 returns : tie.Need-returns
 returns c = (
-  λ s y. rw (← c .before .before .word-pending .ensures) (c .before .open-in .ensures s y),
+  λ s y. rw (← c .before .before .word-pending .ensures, ← c .before .before .before .before .before .figures-now .ensures (s .cells)) (c .before .open-in .ensures s y),
   (
-    rw (c .accepted-as .ensures, c .before .before .before .before .before .before .before .send-in .ensures .0, c .before .before .before .before .before .before .before .before .before .config-request .ensures, c .before .before .before .before .before .before .before .before .before .before .lowest .ensures),
-    rw (c .before .before .before .before .before .before .before .before .before .config-request .ensures, c .before .before .before .before .before .before .before .before .before .before .lowest .ensures) at (c .before .before .before .before .before .before .before .send-in .ensures .1),
+    rw (c .accepted-as .ensures, c .before .before .before .before .before .before .before .before .send-in .ensures .0, c .before .before .before .before .before .before .before .before .before .before .config-request .ensures, c .before .before .before .before .before .before .before .before .before .before .before .lowest .ensures),
+    rw (c .before .before .before .before .before .before .before .before .before .before .config-request .ensures, c .before .before .before .before .before .before .before .before .before .before .before .lowest .ensures) at (c .before .before .before .before .before .before .before .before .send-in .ensures .1),
   ),
 )
 
@@ -48,6 +52,7 @@ routed-in-spec =
     lowest-requires
     config-request-requires
     send-in-requires
+    figures-now-requires
     word-pending-requires
     open-in-requires
     accepted-as-requires
