@@ -114,6 +114,7 @@ opens b a h =
       settings = r .settings;
       registers = ap (λ (c : Core). c .registers) (r .core);
       ticks = ap (λ (c : Core). c .ticks) (r .core);
+      session = ap (λ (c : Core). c .session) (r .core);
       config = ap (λ (c : Core). c .config) (r .core);
       free = ap (λ (c : Core). c .free) (r .core);
       fewer = rw (r .core) (take-one-less tagCount (b .core .free) t (lowest-is tagCount (b .core .free) h .tag));

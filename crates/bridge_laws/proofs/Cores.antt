@@ -8,7 +8,7 @@ use Rattle.ecam.proofs.Writes.{write-only-named}
 use Rattle.parts.specs.Cores.{Core}
 use Rattle.parts.specs.Answers.{changed}
 use Rattle.refusals.specs.Table.{Change, keeps, sets, changeOf}
-use Rattle.machine.specs.State.{withRegisters, withConfig, doneConfig, okay, raisedCore, refusalChange}
+use Rattle.machine.specs.State.{withRegisters, withConfig, doneConfig, figuresNow, okay, raisedCore, refusalChange}
 use Rattle.machine.specs.Config.{Access, localCore}
 
 -- registers alone differ, and not the link
@@ -16,15 +16,16 @@ pub record Registered (c d : Core) : Type 0 where
   pub same : d ≡ withRegisters (d .registers) c
   pub free : d .free ≡ c .free
   pub ticks : d .ticks ≡ c .ticks
+  pub session : d .session ≡ c .session
   pub config : d .config ≡ c .config
   pub link : d .registers .link ≡ c .registers .link
 
 pub raised-core : (i : ℕ) (c : Core) → Registered c (raisedCore i c)
 unfolding raisedCore
-raised-core i c = record { same = refl; free = refl; ticks = refl; config = refl; link = refl }
+raised-core i c = record { same = refl; free = refl; ticks = refl; session = refl; config = refl; link = refl }
 
 changed-core : (x : Change) (c : Core) → Registered c (changed x c)
-changed-core keeps c = record { same = refl; free = refl; ticks = refl; config = refl; link = refl }
+changed-core keeps c = record { same = refl; free = refl; ticks = refl; session = refl; config = refl; link = refl }
 changed-core (sets i) c = raised-core i c
 
 -- a refusal's change
@@ -42,19 +43,20 @@ write-link false r w s d = refl
 pub record LocalCore (c : Core) (a : Access) (w : ℕ) (d : Core) : Type 0 where
   pub free : d .free ≡ c .free
   pub ticks : d .ticks ≡ c .ticks
-  pub config : d .config ≡ doneConfig (a .write) okay (cond (a .write) 0 (localRead (c .registers) w))
+  pub session : d .session ≡ c .session
+  pub config : d .config ≡ doneConfig (a .write) okay (cond (a .write) 0 (localRead (c .registers) w)) (figuresNow c)
   pub link : d .registers .link ≡ c .registers .link
 
 pub local-core : (c : Core) (a : Access) (w : ℕ) → LocalCore c a w (localCore c a w)
 unfolding localCore
 local-core c a w =
-    record { free = refl; ticks = refl; config = refl; link = write-link (a .write) (c .registers) w (a .strobes) (a .word) }
+    record { free = refl; ticks = refl; session = refl; config = refl; link = write-link (a .write) (c .registers) w (a .strobes) (a .word) }
 
 -- the core that a local access leaves, whole
 pub local-is : (c : Core) (a : Access) (w : ℕ)
     → localCore c a w
     ≡ withRegisters (cond (a .write) (localWrite (c .registers) w (a .strobes) (a .word)) (c .registers))
-    (withConfig (doneConfig (a .write) okay (cond (a .write) 0 (localRead (c .registers) w))) c)
+    (withConfig (doneConfig (a .write) okay (cond (a .write) 0 (localRead (c .registers) w)) (figuresNow c)) c)
 unfolding localCore
 local-is c a w = refl
 

@@ -118,5 +118,5 @@ late-kept {t} {h} (steps.memory m) l =
 late-kept {t} {h} (steps.config m) l =
     let k = ownerOf (h .bridge) t in
     let c = withConfig (configDone (h .bridge .core .config) slverr 0) (h .bridge .core) in
-    let p = core-only k t (h .bridge) (raisedCore cfgTimeout c) (raised-core cfgTimeout c .ticks) (λ s. absurd (omega arith)) in
+    let p = core-only k t (h .bridge) (raisedCore cfgTimeout c) (raised-core cfgTimeout c .ticks) (raised-core cfgTimeout c .session) (λ s. absurd (omega arith)) in
     kept-by (only-then p (shut-only k t (coreIn (raisedCore cfgTimeout c) (h .bridge))))

@@ -14,7 +14,7 @@ use Rattle.refusals.specs.declared.Response.the-variants.{Nothing, Okay, Slverr
 use Rattle.machine.specs.Bridge.{Bridge}
 use Rattle.parts.specs.Cores.{Core}
 use Rattle.parts.specs.declared.Answer.{Answer}
-use Rattle.machine.specs.State.{Answered, freeConfig, coreIn, responseOf, refusalChange, refusal, accepted, answered, refused}
+use Rattle.machine.specs.State.{Answered, freeConfig, coreIn, responseOf, refusalChange, refusal, taken, answered, refused}
 use Rattle.machine.specs.Completions.{storeSize, sizeOf}
 use Rattle.machine.specs.Take.{stateIn, stateOf, takeNumber, takeRefusal, looked, slotFreed, releaseStep}
 use Rattle.bridge_laws.specs.ConfigLaws.{ResponseCoded, ReleaseNumber, TakeRefused, PartOf, LookIsPart, LookAtSlot, LookAtConfig, Released, ReleaseFrees, ReleaseOnce}
@@ -50,7 +50,7 @@ kept room found c =
     (λ e. either (λ (n : ℕ). refusalChange n c ≡ c) (not (eqb found 2)) _ _ (λ f. refl) (λ f. refl))
 
 pub release-number : ReleaseNumber
-unfolding releaseStep refused refusal accepted
+unfolding releaseStep refused refusal taken
 release-number b room k =
     let n = takeRefusal b room k in
     either (λ (x : Answered). x .answer .number ≡ n) (eqb n 0) _ _

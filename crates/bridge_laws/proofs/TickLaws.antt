@@ -15,7 +15,7 @@ use Rattle.verdict.specs.declared.Cause.the-variants.{Timeout}
 use Rattle.machine.specs.Bridge.{Bridge}
 use Rattle.machine.specs.State.{tagCount, slotCount, withTicks, coreIn, slotAt, missingOf, ownerOf, placeOf, slotState, slotOpen, isOpen, shut}
 use Rattle.machine.specs.Completions.{storeSize, Held, held, failed}
-use Rattle.machine.specs.Ticks.{nextTick, isOld, timedOut, expireTo, ticked, linkIn, dropConfig, linkLost, dropSlot, dropSlots, linked}
+use Rattle.machine.specs.Ticks.{nextTick, isOld, timedOut, expireTo, ticked, linkTo, dropConfig, linkLost, dropSlot, dropSlots, linked}
 use Rattle.machine.specs.Take.{stateIn, stateOf}
 use Rattle.bridge_laws.specs.CompletionLaws.{Kept, BytesOnly, slotOf, Unawaited, AnswerSame}
 use Rattle.bridge_laws.specs.TickLaws.{RefusedTick, RefusedLink, TickStays, LinkStays}
@@ -133,4 +133,4 @@ link-stays up h j o =
     answer-then j h x (dropSlots x slotCount)
     (answer-rows j h (linkLost b) s (λ e. lost-config b ∙ config-left (b .core .config) (λ f. o (state-config b j e ∙ f))))
     (dropped-stays x j (ltb-false _ _ z) (λ l e. o (state-slot b j l ∙ (sym (same-state s) ∙ e)))))
-    (λ w. answer-rows j h (coreIn (linkIn up (b .core)) b) refl (λ e. refl)))
+    (λ w. answer-rows j h (coreIn (linkTo up (b .core)) b) refl (λ e. refl)))

@@ -121,11 +121,12 @@ pub only-then : {k t : ℕ} {b x y : Bridge} → OnlyHere k t b x → OnlyHere k
 only-then p q = search (_∙_, q .tags, p .tags, q .slots, p .slots, q .config, p .config)
 
 -- the core alone
-pub core-only : (k t : ℕ) (b : Bridge) (c : Core) → c .ticks ≡ b .core .ticks → (k < slotCount → c .config ≡ b .core .config) → OnlyHere k t b (coreIn c b)
-core-only k t b c x y = search
+pub core-only : (k t : ℕ) (b : Bridge) (c : Core) → c .ticks ≡ b .core .ticks → c .session ≡ b .core .session
+    → (k < slotCount → c .config ≡ b .core .config) → OnlyHere k t b (coreIn c b)
+core-only k t b c x y z = search
 
 pub raise-only : (k t : ℕ) (b : Bridge) (i : ℕ) → OnlyHere k t b (raise i b)
-raise-only k t b i = let r = raised-core i (b .core) in core-only k t b (raisedCore i (b .core)) (r .ticks) (λ l. r .config)
+raise-only k t b i = let r = raised-core i (b .core) in core-only k t b (raisedCore i (b .core)) (r .ticks) (r .session) (λ l. r .config)
 
 pub freed-only : (k t : ℕ) (b : Bridge) → OnlyHere k t b (freed t b)
 unfolding freed

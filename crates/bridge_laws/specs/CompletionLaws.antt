@@ -28,11 +28,13 @@ Outside k i = (i < 4096 * k) ⊎ (4096 * k + 4096 ≤ i)
 pub record OnlyHere (k t : ℕ) (b x : Bridge) : Type 0 where
   pub settings : x .settings ≡ b .settings
   pub ticks : x .core .ticks ≡ b .core .ticks
+  pub counter : x .core .session ≡ b .core .session
   pub config : k < slotCount → x .core .config ≡ b .core .config
   pub sent : x .sent ≡ b .sent
   pub owner : x .owner ≡ b .owner
   pub kind : x .kind ≡ b .kind
   pub size : x .size ≡ b .size
+  pub session : x .session ≡ b .session
   pub tags : (u : ℕ) → u ≢ t → tagAt x u ≡ tagAt b u
   pub slots : (j : ℕ) → j ≢ k → slotAt x j ≡ slotAt b j
 

@@ -20,7 +20,7 @@ use Rattle.refusals.specs.declared.Response.{Response}
 use Rattle.refusals.specs.Responses.{codeOf}
 use Rattle.parts.specs.Cores.{Core}
 use Rattle.machine.specs.Bridge.{Bridge}
-use Rattle.machine.specs.State.{tagCount, configSlot, configRead, configWrite, withRegisters, withConfig, freeConfig, openConfig, doneConfig, coreIn, putState, tagAt, slotAt, okay, responseOf, refusal, answered, newBridge, registersOf, lineOf}
+use Rattle.machine.specs.State.{tagCount, configSlot, configRead, configWrite, withRegisters, withConfig, freeConfig, openConfig, doneConfig, figuresNow, coreIn, putState, tagAt, slotAt, okay, responseOf, refusal, answered, newBridge, registersOf, lineOf}
 use Rattle.machine.specs.contracts.Passing.{Passed}
 use Rattle.machine.specs.Config.{Access, routeOf, goesOut, configNumber, configRefusal, routedRequest, payloadOf, configBytes, configStep, configArea}
 use Rattle.machine.specs.Completions.{sizeOf}
@@ -87,7 +87,7 @@ LocalReadFinishes =
     → a .write ≡ false
     → configRefusal b a room ≡ 0
     → configStep b a room .bridge
-    ≡ coreIn (withConfig (doneConfig false okay (localRead (registersOf b) w)) (b .core)) b
+    ≡ coreIn (withConfig (doneConfig false okay (localRead (registersOf b) w) (figuresNow (b .core))) (b .core)) b
 
 -- an accepted local write changes the registers as its word, strobes and data say, and finishes the slot with word 0
 abbrev pub LocalWriteFinishes : Type 0
@@ -99,15 +99,16 @@ LocalWriteFinishes =
     → configStep b a room .bridge
     ≡ coreIn
     (withRegisters (localWrite (registersOf b) w (a .strobes) (a .word))
-    (withConfig (doneConfig true okay 0) (b .core))) b
+    (withConfig (doneConfig true okay 0 (figuresNow (b .core))) (b .core))) b
 
--- an accepted access that goes out takes the lowest free tag, and its slot is open: no setting, register, tick, read slot or
--- other tag changes
+-- an accepted access that goes out takes the lowest free tag, and its slot is open: no setting, register, tick, session, read
+-- slot or other tag changes
 pub record Opens (a : Access) (b c : Bridge) : Type 0 where
   pub settings : c .settings ≡ b .settings
   pub registers : registersOf c ≡ registersOf b
   pub ticks : c .core .ticks ≡ b .core .ticks
-  pub config : c .core .config ≡ openConfig (a .write)
+  pub session : c .core .session ≡ b .core .session
+  pub config : c .core .config ≡ openConfig (a .write) (figuresNow (b .core))
   pub free : c .core .free ≡ clearBit (b .core .free) (lowest tagCount (b .core .free))
   pub fewer : available tagCount (b .core .free) ≡ suc (available tagCount (c .core .free))
   pub slots : (k : ℕ) → slotAt c k ≡ slotAt b k

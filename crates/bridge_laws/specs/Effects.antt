@@ -18,7 +18,7 @@ use Rattle.verdict.specs.declared.Cause.{Cause}
 use Rattle.verdict.specs.declared.Cause.the-variants.{Poison, Timeout}
 use Rattle.verdict.specs.declared.Verdict.{Verdict}
 use Rattle.verdict.specs.declared.Verdict.the-variants.{Good, Poisoned, Failed}
-use Rattle.machine.specs.State.{Bridge, Tag, Slot, withFree, tagAt, slotAt, missingOf, placeOf, ownerOf, tagCount, slotCount, slotSize, slverr, withConfig, openConfig, freeConfig, raisedCore, coreIn, opened, counted, shut, freed}
+use Rattle.machine.specs.State.{Bridge, Tag, Slot, withFree, tagAt, slotAt, missingOf, placeOf, ownerOf, tagCount, slotCount, slotSize, slverr, withConfig, openConfig, figuresNow, freeConfig, raisedCore, coreIn, opened, counted, shut, freed}
 use Rattle.machine.specs.Verdict.{causeResponse, causeBit}
 use Rattle.machine.specs.Memory.{piecesOf, claimed}
 use Rattle.machine.specs.Config.{Access, routedBridge, wordPending}
@@ -71,7 +71,7 @@ FailedActs =
 abbrev pub ClaimedActs : Type 0
 ClaimedActs =
     (t k : ℕ) (q : Burst) (b : Bridge) → Tables b → k < slotCount
-    → Acts t k same (λ s. waitingSlot (lengthOf q) (piecesOf (b .settings .reads) q)) same b (claimed k q b)
+    → Acts t k same (λ s. waitingSlot (lengthOf q) (piecesOf (b .settings .reads) q) (b .core .session)) same b (claimed k q b)
 
 -- a piece is closed: the slot, and the store
 pub record Closed (t k : ℕ) (h x : Held) : Type 0 where
@@ -159,7 +159,7 @@ abbrev pub RoutedActs : Type 0
 RoutedActs =
     (b : Bridge) (a : Access) (k : ℕ) → Tables b → 0 < available tagCount (b .core .free)
     → Acts (lowest tagCount (b .core .free)) k (λ o. pendingTag (b .core .ticks) (wordPending (a .write))) same
-    (λ c. takenCore (withConfig (openConfig (a .write)) c)) b (routedBridge b a)
+    (λ c. takenCore (withConfig (openConfig (a .write) (figuresNow c)) c)) b (routedBridge b a)
 
 -- ---- the link goes down
 

@@ -149,6 +149,7 @@ pub record Tables (b : Bridge) : Type 0 where
   pub pieces : length (b .pieces) ≡ slotCount
   pub fault : length (b .fault) ≡ slotCount
   pub cause : length (b .cause) ≡ slotCount
+  pub session : length (b .session) ≡ slotCount
 
 -- what an accepted read stores: each piece at its tag, the burst at its slot; the tags are no longer free
 pub record ReadOpens (b : Bridge) (q : Burst) (c : Bridge) : Type 0 where
@@ -164,7 +165,7 @@ pub record ReadOpens (b : Bridge) (q : Burst) (c : Bridge) : Type 0 where
         next = lowerAddress (pcieOf (b .settings .windows) q (pieceOf (b .settings .reads) q k .first));
         kind = memoryRead;
       }
-  pub slot : slotAt c (freeSlot b) ≡ waitingSlot (lengthOf q) (piecesOf (b .settings .reads) q)
+  pub slot : slotAt c (freeSlot b) ≡ waitingSlot (lengthOf q) (piecesOf (b .settings .reads) q) (b .core .session)
 
 abbrev pub AcceptedReadOpens : Type 0
 AcceptedReadOpens =

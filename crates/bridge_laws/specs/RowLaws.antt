@@ -2,7 +2,7 @@
 use Prim.Native.Nat.{ℕ}
 use mathlib.Core.Path.{_≡_}
 use mathlib.Core.Logic.{_≢_}
-use Rattle.machine.specs.State.{Bridge, slotAt, tagAt, setMissing, setSent, setOwner, setPlace, setNext, setKind, setState, setSize, setPieces, setFault, setCause}
+use Rattle.machine.specs.State.{Bridge, slotAt, tagAt, setMissing, setSent, setOwner, setPlace, setNext, setKind, setState, setSize, setPieces, setFault, setCause, setSession}
 
 -- what changes slot k alone: other slots' rows, every tag's row, the settings and the core stay
 pub record SlotAlone (k : ℕ) (b x : Bridge) : Type 0 where
@@ -37,3 +37,4 @@ pub record SettersAlone : Type 0 where
   pub pieces : SetsSlot setPieces
   pub fault : SetsSlot setFault
   pub cause : SetsSlot setCause
+  pub session : SetsSlot setSession

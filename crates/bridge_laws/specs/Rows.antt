@@ -50,7 +50,7 @@ pendingTag now p =
 -- a failure at a place is noted
 abbrev pub notedSlot : ℕ → ℕ → Slot → Slot
 notedSlot place code s =
-    record { state = s .state; size = s .size; pieces = s .pieces; fault = place; cause = code }
+    record { state = s .state; size = s .size; pieces = s .pieces; fault = place; cause = code; session = s .session }
 
 -- where that place is the least
 abbrev pub faultedSlot : ℕ → ℕ → Slot → Slot
@@ -58,32 +58,32 @@ faultedSlot place code s = cond (ltb place (s .fault)) (notedSlot place code s) 
 
 abbrev pub finishedSlot : Slot → Slot
 finishedSlot s =
-    record { state = slotFinished; size = s .size; pieces = 0; fault = s .fault; cause = s .cause }
+    record { state = slotFinished; size = s .size; pieces = 0; fault = s .fault; cause = s .cause; session = s .session }
 
 abbrev pub fewerSlot : Slot → Slot
 fewerSlot s =
-    record { state = s .state; size = s .size; pieces = s .pieces - 1; fault = s .fault; cause = s .cause }
+    record { state = s .state; size = s .size; pieces = s .pieces - 1; fault = s .fault; cause = s .cause; session = s .session }
 
 -- a piece is closed, the last perhaps
 abbrev pub closedSlot : Slot → Slot
 closedSlot s = cond (leb (s .pieces) 1) (finishedSlot s) (fewerSlot s)
 
--- it waits for n bytes, in so many pieces
-abbrev pub waitingSlot : ℕ → ℕ → Slot
-waitingSlot n count =
-    record { state = slotOpen; size = n; pieces = count; fault = slotSize; cause = okay }
+-- it waits for n bytes, in so many pieces, accepted in a session
+abbrev pub waitingSlot : ℕ → ℕ → ℕ → Slot
+waitingSlot n count session =
+    record { state = slotOpen; size = n; pieces = count; fault = slotSize; cause = okay; session = session }
 
 -- the link drops: an open read is finished as SLVERR
 abbrev pub lostSlot : Slot → Slot
 lostSlot s =
-    record { state = slotFinished; size = s .size; pieces = 0; fault = s .fault; cause = slverr }
+    record { state = slotFinished; size = s .size; pieces = 0; fault = s .fault; cause = slverr; session = s .session }
 
 abbrev pub droppedSlot : Slot → Slot
 droppedSlot s = cond (eqb (s .state) slotOpen) (lostSlot s) s
 
 abbrev pub freedSlot : Slot → Slot
 freedSlot s =
-    record { state = slotFree; size = s .size; pieces = s .pieces; fault = s .fault; cause = s .cause }
+    record { state = slotFree; size = s .size; pieces = s .pieces; fault = s .fault; cause = s .cause; session = s .session }
 
 -- ---- the core
 

@@ -18,7 +18,7 @@ use Rattle.ecam.specs.Registers.{Registers}
 use Rattle.ecam.specs.Registers.{some, decodeBits, isDecodeBit, errorBits, isErrorBit, byte, strobe, strobed, reached, clears, cleared, numbered, writeBuses, localWrite, raised, fresh, withSecondary, withSubordinate}
 use Rattle.ecam.specs.Route.{route}
 use Rattle.ecam.specs.Request.{dataWord}
-use Rattle.machine.specs.State.{registersOf, raisedCore, opened, counted, shut, freed, freeSlotFrom, responseOf, refusalResponse, refusalChange, refusal, accepted, refused, freshCore, freshBridge, newBridge}
+use Rattle.machine.specs.State.{registersOf, raisedCore, opened, counted, shut, freed, freeSlotFrom, responseOf, refusalResponse, refusalChange, refusal, accepted, taken, refused, freshCore, freshBridge, newBridge}
 use Rattle.machine.specs.Memory.{areaSize, pieceOf, pcieOf, readRefusal, claimed, readTo, readStep}
 use Rattle.machine.specs.Config.{configNumber, localCore, routedBridge, configStep}
 use Rattle.machine.specs.Verdict.{memoryVerdict, configVerdict}
@@ -42,7 +42,7 @@ good-ten (suc zero) lt = refl
 good-ten (suc (suc j)) lt = absurd (omega arith)
 
 at-ten : AtTen
-unfolding bit isSet setBit clearBit freeFrom validCompletion completionReserved readCompletion powerAmong eachFrom windowRight apart windowsRight settingsRight settingsNumber holds firstFrom windowOf translated endFrom burstRight burstNumber lengthOf pieceCount pieceFirst pieceEnd pieceAt addresses some decodeBits isDecodeBit byte strobe numbered writeBuses localWrite raised fresh route dataWord raisedCore opened counted shut freed freeSlotFrom responseOf refusalResponse refusalChange refusal accepted refused freshCore freshBridge newBridge pcieOf readRefusal claimed readTo readStep configNumber localCore routedBridge configStep memoryVerdict configVerdict faulted failed finished pieceClosed advanced memoryCompleted configAnswer configCompleted verdictOf completionOf completeRefusal expected completed timedOut expire expireTo ticked dropSlot dropSlots linkLost linked stateIn takeNumber looked slotFreed releaseStep flatMap
+unfolding bit isSet setBit clearBit freeFrom validCompletion completionReserved readCompletion powerAmong eachFrom windowRight apart windowsRight settingsRight settingsNumber holds firstFrom windowOf translated endFrom burstRight burstNumber lengthOf pieceCount pieceFirst pieceEnd pieceAt addresses some decodeBits isDecodeBit byte strobe numbered writeBuses localWrite raised fresh route dataWord raisedCore opened counted shut freed freeSlotFrom responseOf refusalResponse refusalChange refusal accepted taken refused freshCore freshBridge newBridge pcieOf readRefusal claimed readTo readStep configNumber localCore routedBridge configStep memoryVerdict configVerdict faulted failed finished pieceClosed advanced memoryCompleted configAnswer configCompleted verdictOf completionOf completeRefusal expected completed timedOut expire expireTo ticked dropSlot dropSlots linkLost linked stateIn takeNumber looked slotFreed releaseStep flatMap
 at-ten =
     record {
       long = leb-true 32768 32768 refl;
@@ -58,13 +58,13 @@ at-ten =
     }
 
 bytes-there : BytesThere
-unfolding bit isSet setBit clearBit freeFrom validCompletion completionReserved readCompletion powerAmong eachFrom windowRight apart windowsRight settingsRight settingsNumber holds firstFrom windowOf translated endFrom burstRight burstNumber lengthOf pieceCount pieceFirst pieceEnd pieceAt addresses some decodeBits isDecodeBit byte strobe numbered writeBuses localWrite raised fresh route dataWord raisedCore opened counted shut freed freeSlotFrom responseOf refusalResponse refusalChange refusal accepted refused freshCore freshBridge newBridge pcieOf readRefusal claimed readTo readStep configNumber localCore routedBridge configStep memoryVerdict configVerdict faulted failed finished pieceClosed advanced memoryCompleted configAnswer configCompleted verdictOf completionOf completeRefusal expected completed timedOut expire expireTo ticked dropSlot dropSlots linkLost linked stateIn takeNumber looked slotFreed releaseStep
+unfolding bit isSet setBit clearBit freeFrom validCompletion completionReserved readCompletion powerAmong eachFrom windowRight apart windowsRight settingsRight settingsNumber holds firstFrom windowOf translated endFrom burstRight burstNumber lengthOf pieceCount pieceFirst pieceEnd pieceAt addresses some decodeBits isDecodeBit byte strobe numbered writeBuses localWrite raised fresh route dataWord raisedCore opened counted shut freed freeSlotFrom responseOf refusalResponse refusalChange refusal accepted taken refused freshCore freshBridge newBridge pcieOf readRefusal claimed readTo readStep configNumber localCore routedBridge configStep memoryVerdict configVerdict faulted failed finished pieceClosed advanced memoryCompleted configAnswer configCompleted verdictOf completionOf completeRefusal expected completed timedOut expire expireTo ticked dropSlot dropSlots linkLost linked stateIn takeNumber looked slotFreed releaseStep
 bytes-there bytes =
     bytes settings store (at-ten .long) sent before ten areaSize during (at-ten .far) (at-ten .taken) (at-ten .untaken) (at-ten .okay) .0
     ∙ at-ten .bytes
 
 okay-there : OkayThere
-unfolding bit isSet setBit clearBit freeFrom validCompletion completionReserved readCompletion powerAmong eachFrom windowRight apart windowsRight settingsRight settingsNumber holds firstFrom windowOf translated endFrom burstRight burstNumber lengthOf pieceCount pieceFirst pieceEnd pieceAt addresses some decodeBits isDecodeBit byte strobe numbered writeBuses localWrite raised fresh route dataWord raisedCore opened counted shut freed freeSlotFrom responseOf refusalResponse refusalChange refusal accepted refused freshCore freshBridge newBridge pcieOf readRefusal claimed readTo readStep configNumber localCore routedBridge configStep memoryVerdict configVerdict faulted failed finished pieceClosed advanced memoryCompleted configAnswer configCompleted verdictOf completionOf completeRefusal expected completed timedOut expire expireTo ticked dropSlot dropSlots linkLost linked stateIn takeNumber looked slotFreed releaseStep
+unfolding bit isSet setBit clearBit freeFrom validCompletion completionReserved readCompletion powerAmong eachFrom windowRight apart windowsRight settingsRight settingsNumber holds firstFrom windowOf translated endFrom burstRight burstNumber lengthOf pieceCount pieceFirst pieceEnd pieceAt addresses some decodeBits isDecodeBit byte strobe numbered writeBuses localWrite raised fresh route dataWord raisedCore opened counted shut freed freeSlotFrom responseOf refusalResponse refusalChange refusal accepted taken refused freshCore freshBridge newBridge pcieOf readRefusal claimed readTo readStep configNumber localCore routedBridge configStep memoryVerdict configVerdict faulted failed finished pieceClosed advanced memoryCompleted configAnswer configCompleted verdictOf completionOf completeRefusal expected completed timedOut expire expireTo ticked dropSlot dropSlots linkLost linked stateIn takeNumber looked slotFreed releaseStep
 okay-there okay =
     okay settings store (at-ten .long) sent before ten areaSize during (at-ten .far) (at-ten .taken) (at-ten .young) (at-ten .steady)
     (at-ten .good)
@@ -72,7 +72,7 @@ okay-there okay =
 -- ---- the routed configuration read
 
 at-word : AtWord
-unfolding bit isSet setBit clearBit freeFrom validCompletion completionReserved readCompletion powerAmong eachFrom windowRight apart windowsRight settingsRight settingsNumber holds firstFrom windowOf translated endFrom burstRight burstNumber lengthOf pieceCount pieceFirst pieceEnd pieceAt addresses some decodeBits isDecodeBit byte strobe numbered writeBuses localWrite raised fresh route dataWord raisedCore opened counted shut freed freeSlotFrom responseOf refusalResponse refusalChange refusal accepted refused freshCore freshBridge newBridge pcieOf readRefusal claimed readTo readStep configNumber localCore routedBridge configStep memoryVerdict configVerdict faulted failed finished pieceClosed advanced memoryCompleted configAnswer configCompleted verdictOf completionOf completeRefusal expected completed timedOut expire expireTo ticked dropSlot dropSlots linkLost linked stateIn takeNumber looked slotFreed releaseStep
+unfolding bit isSet setBit clearBit freeFrom validCompletion completionReserved readCompletion powerAmong eachFrom windowRight apart windowsRight settingsRight settingsNumber holds firstFrom windowOf translated endFrom burstRight burstNumber lengthOf pieceCount pieceFirst pieceEnd pieceAt addresses some decodeBits isDecodeBit byte strobe numbered writeBuses localWrite raised fresh route dataWord raisedCore opened counted shut freed freeSlotFrom responseOf refusalResponse refusalChange refusal accepted taken refused freshCore freshBridge newBridge pcieOf readRefusal claimed readTo readStep configNumber localCore routedBridge configStep memoryVerdict configVerdict faulted failed finished pieceClosed advanced memoryCompleted configAnswer configCompleted verdictOf completionOf completeRefusal expected completed timedOut expire expireTo ticked dropSlot dropSlots linkLost linked stateIn takeNumber looked slotFreed releaseStep
 at-word =
     record {
       far = far-first sent begun (toConfig ++ call (config onBus1 areaSize) ∷ completion 6 g1 ∷ []) _ (met .far);
@@ -95,7 +95,7 @@ word-ends ends = ends settings store (at-ten .long) toConfig onBus1 areaSize (ti
 -- ---- the local configuration write
 
 at-local : AtLocal
-unfolding bit isSet setBit clearBit freeFrom validCompletion completionReserved readCompletion powerAmong eachFrom windowRight apart windowsRight settingsRight settingsNumber holds firstFrom windowOf translated endFrom burstRight burstNumber lengthOf pieceCount pieceFirst pieceEnd pieceAt addresses some decodeBits isDecodeBit byte strobe numbered writeBuses localWrite raised fresh route dataWord raisedCore opened counted shut freed freeSlotFrom responseOf refusalResponse refusalChange refusal accepted refused freshCore freshBridge newBridge pcieOf readRefusal claimed readTo readStep configNumber localCore routedBridge configStep memoryVerdict configVerdict faulted failed finished pieceClosed advanced memoryCompleted configAnswer configCompleted verdictOf completionOf completeRefusal expected completed timedOut expire expireTo ticked dropSlot dropSlots linkLost linked stateIn takeNumber looked slotFreed releaseStep
+unfolding bit isSet setBit clearBit freeFrom validCompletion completionReserved readCompletion powerAmong eachFrom windowRight apart windowsRight settingsRight settingsNumber holds firstFrom windowOf translated endFrom burstRight burstNumber lengthOf pieceCount pieceFirst pieceEnd pieceAt addresses some decodeBits isDecodeBit byte strobe numbered writeBuses localWrite raised fresh route dataWord raisedCore opened counted shut freed freeSlotFrom responseOf refusalResponse refusalChange refusal accepted taken refused freshCore freshBridge newBridge pcieOf readRefusal claimed readTo readStep configNumber localCore routedBridge configStep memoryVerdict configVerdict faulted failed finished pieceClosed advanced memoryCompleted configAnswer configCompleted verdictOf completionOf completeRefusal expected completed timedOut expire expireTo ticked dropSlot dropSlots linkLost linked stateIn takeNumber looked slotFreed releaseStep
 at-local = record { taken = refl; stays = refl }
 
 local-there : LocalThere
@@ -104,7 +104,7 @@ local-there okay = okay settings store (at-ten .long) toBuses setBuses areaSize 
 -- ---- the first read
 
 at-first : AtFirst
-unfolding bit isSet setBit clearBit freeFrom validCompletion completionReserved readCompletion powerAmong eachFrom windowRight apart windowsRight settingsRight settingsNumber holds firstFrom windowOf translated endFrom burstRight burstNumber lengthOf pieceCount pieceFirst pieceEnd pieceAt addresses some decodeBits isDecodeBit byte strobe numbered writeBuses localWrite raised fresh route dataWord raisedCore opened counted shut freed freeSlotFrom responseOf refusalResponse refusalChange refusal accepted refused freshCore freshBridge newBridge pcieOf readRefusal claimed readTo readStep configNumber localCore routedBridge configStep memoryVerdict configVerdict faulted failed finished pieceClosed advanced memoryCompleted configAnswer configCompleted verdictOf completionOf completeRefusal expected completed timedOut expire expireTo ticked dropSlot dropSlots linkLost linked stateIn takeNumber looked slotFreed releaseStep
+unfolding bit isSet setBit clearBit freeFrom validCompletion completionReserved readCompletion powerAmong eachFrom windowRight apart windowsRight settingsRight settingsNumber holds firstFrom windowOf translated endFrom burstRight burstNumber lengthOf pieceCount pieceFirst pieceEnd pieceAt addresses some decodeBits isDecodeBit byte strobe numbered writeBuses localWrite raised fresh route dataWord raisedCore opened counted shut freed freeSlotFrom responseOf refusalResponse refusalChange refusal accepted taken refused freshCore freshBridge newBridge pcieOf readRefusal claimed readTo readStep configNumber localCore routedBridge configStep memoryVerdict configVerdict faulted failed finished pieceClosed advanced memoryCompleted configAnswer configCompleted verdictOf completionOf completeRefusal expected completed timedOut expire expireTo ticked dropSlot dropSlots linkLost linked stateIn takeNumber looked slotFreed releaseStep
 at-first = record { taken = refl; slot = refl; late = leb-true 2 2 refl }
 
 read-ends : ReadEnds
@@ -125,7 +125,7 @@ each-below P (suc n) (p, all) zero lt = p
 each-below P (suc n) (p, all) (suc k) lt = each-below (λ i. P (suc i)) n all k (le-of-suc-le-suc lt)
 
 left-old : Left old
-unfolding bit isSet fromBits setBit clearBit freeFrom validCompletion completionReserved readCompletion powerAmong eachFrom windowRight apart windowsRight settingsRight settingsNumber holds firstFrom windowOf translated endFrom burstRight burstNumber lengthOf pieceCount pieceFirst pieceEnd pieceAt addresses some decodeBits isDecodeBit byte strobe strobed reached errorBits isErrorBit clears cleared numbered writeBuses localWrite raised fresh route dataWord raisedCore opened counted shut freed freeSlotFrom responseOf refusalResponse refusalChange refusal accepted refused freshCore freshBridge newBridge pcieOf readRefusal claimed readTo readStep configNumber localCore routedBridge configStep memoryVerdict configVerdict faulted failed finished pieceClosed advanced memoryCompleted configAnswer configCompleted verdictOf completionOf completeRefusal expected completed timedOut expire expireTo ticked dropSlot dropSlots linkLost linked stateIn takeNumber looked slotFreed releaseStep
+unfolding bit isSet fromBits setBit clearBit freeFrom validCompletion completionReserved readCompletion powerAmong eachFrom windowRight apart windowsRight settingsRight settingsNumber holds firstFrom windowOf translated endFrom burstRight burstNumber lengthOf pieceCount pieceFirst pieceEnd pieceAt addresses some decodeBits isDecodeBit byte strobe strobed reached errorBits isErrorBit clears cleared numbered writeBuses localWrite raised fresh route dataWord raisedCore opened counted shut freed freeSlotFrom responseOf refusalResponse refusalChange refusal accepted taken refused freshCore freshBridge newBridge pcieOf readRefusal claimed readTo readStep configNumber localCore routedBridge configStep memoryVerdict configVerdict faulted failed finished pieceClosed advanced memoryCompleted configAnswer configCompleted verdictOf completionOf completeRefusal expected completed timedOut expire expireTo ticked dropSlot dropSlots linkLost linked stateIn takeNumber looked slotFreed releaseStep
 left-old =
     record {
       settings = settings;
@@ -138,7 +138,7 @@ left-old =
     }
 
 left-new : Left new
-unfolding bit isSet fromBits setBit clearBit freeFrom validCompletion completionReserved readCompletion powerAmong eachFrom windowRight apart windowsRight settingsRight settingsNumber holds firstFrom windowOf translated endFrom burstRight burstNumber lengthOf pieceCount pieceFirst pieceEnd pieceAt addresses some decodeBits isDecodeBit byte strobe strobed reached errorBits isErrorBit clears cleared numbered writeBuses localWrite raised fresh route dataWord raisedCore opened counted shut freed freeSlotFrom responseOf refusalResponse refusalChange refusal accepted refused freshCore freshBridge newBridge pcieOf readRefusal claimed readTo readStep configNumber localCore routedBridge configStep memoryVerdict configVerdict faulted failed finished pieceClosed advanced memoryCompleted configAnswer configCompleted verdictOf completionOf completeRefusal expected completed timedOut expire expireTo ticked dropSlot dropSlots linkLost linked stateIn takeNumber looked slotFreed releaseStep
+unfolding bit isSet fromBits setBit clearBit freeFrom validCompletion completionReserved readCompletion powerAmong eachFrom windowRight apart windowsRight settingsRight settingsNumber holds firstFrom windowOf translated endFrom burstRight burstNumber lengthOf pieceCount pieceFirst pieceEnd pieceAt addresses some decodeBits isDecodeBit byte strobe strobed reached errorBits isErrorBit clears cleared numbered writeBuses localWrite raised fresh route dataWord raisedCore opened counted shut freed freeSlotFrom responseOf refusalResponse refusalChange refusal accepted taken refused freshCore freshBridge newBridge pcieOf readRefusal claimed readTo readStep configNumber localCore routedBridge configStep memoryVerdict configVerdict faulted failed finished pieceClosed advanced memoryCompleted configAnswer configCompleted verdictOf completionOf completeRefusal expected completed timedOut expire expireTo ticked dropSlot dropSlots linkLost linked stateIn takeNumber looked slotFreed releaseStep
 left-new =
     record {
       settings = settings;
@@ -155,19 +155,19 @@ abbrev cleared-registers : Registers
 cleared-registers = withSubordinate (withSecondary fresh 1) 1
 
 settings-old : old .bridge .settings ≡ settings
-unfolding bit isSet fromBits setBit clearBit freeFrom validCompletion completionReserved readCompletion powerAmong eachFrom windowRight apart windowsRight settingsRight settingsNumber holds firstFrom windowOf translated endFrom burstRight burstNumber lengthOf pieceCount pieceFirst pieceEnd pieceAt addresses some decodeBits isDecodeBit byte strobe strobed reached errorBits isErrorBit clears cleared numbered writeBuses localWrite raised fresh route dataWord raisedCore opened counted shut freed freeSlotFrom responseOf refusalResponse refusalChange refusal accepted refused freshCore freshBridge newBridge pcieOf readRefusal claimed readTo readStep configNumber localCore routedBridge configStep memoryVerdict configVerdict faulted failed finished pieceClosed advanced memoryCompleted configAnswer configCompleted verdictOf completionOf completeRefusal expected completed timedOut expire expireTo ticked dropSlot dropSlots linkLost linked stateIn takeNumber looked slotFreed releaseStep
+unfolding bit isSet fromBits setBit clearBit freeFrom validCompletion completionReserved readCompletion powerAmong eachFrom windowRight apart windowsRight settingsRight settingsNumber holds firstFrom windowOf translated endFrom burstRight burstNumber lengthOf pieceCount pieceFirst pieceEnd pieceAt addresses some decodeBits isDecodeBit byte strobe strobed reached errorBits isErrorBit clears cleared numbered writeBuses localWrite raised fresh route dataWord raisedCore opened counted shut freed freeSlotFrom responseOf refusalResponse refusalChange refusal accepted taken refused freshCore freshBridge newBridge pcieOf readRefusal claimed readTo readStep configNumber localCore routedBridge configStep memoryVerdict configVerdict faulted failed finished pieceClosed advanced memoryCompleted configAnswer configCompleted verdictOf completionOf completeRefusal expected completed timedOut expire expireTo ticked dropSlot dropSlots linkLost linked stateIn takeNumber looked slotFreed releaseStep
 settings-old = refl
 
 settings-new : new .bridge .settings ≡ settings
-unfolding bit isSet fromBits setBit clearBit freeFrom validCompletion completionReserved readCompletion powerAmong eachFrom windowRight apart windowsRight settingsRight settingsNumber holds firstFrom windowOf translated endFrom burstRight burstNumber lengthOf pieceCount pieceFirst pieceEnd pieceAt addresses some decodeBits isDecodeBit byte strobe strobed reached errorBits isErrorBit clears cleared numbered writeBuses localWrite raised fresh route dataWord raisedCore opened counted shut freed freeSlotFrom responseOf refusalResponse refusalChange refusal accepted refused freshCore freshBridge newBridge pcieOf readRefusal claimed readTo readStep configNumber localCore routedBridge configStep memoryVerdict configVerdict faulted failed finished pieceClosed advanced memoryCompleted configAnswer configCompleted verdictOf completionOf completeRefusal expected completed timedOut expire expireTo ticked dropSlot dropSlots linkLost linked stateIn takeNumber looked slotFreed releaseStep
+unfolding bit isSet fromBits setBit clearBit freeFrom validCompletion completionReserved readCompletion powerAmong eachFrom windowRight apart windowsRight settingsRight settingsNumber holds firstFrom windowOf translated endFrom burstRight burstNumber lengthOf pieceCount pieceFirst pieceEnd pieceAt addresses some decodeBits isDecodeBit byte strobe strobed reached errorBits isErrorBit clears cleared numbered writeBuses localWrite raised fresh route dataWord raisedCore opened counted shut freed freeSlotFrom responseOf refusalResponse refusalChange refusal accepted taken refused freshCore freshBridge newBridge pcieOf readRefusal claimed readTo readStep configNumber localCore routedBridge configStep memoryVerdict configVerdict faulted failed finished pieceClosed advanced memoryCompleted configAnswer configCompleted verdictOf completionOf completeRefusal expected completed timedOut expire expireTo ticked dropSlot dropSlots linkLost linked stateIn takeNumber looked slotFreed releaseStep
 settings-new = refl
 
 registers-old : registersOf (old .bridge) ≡ cleared-registers
-unfolding bit isSet fromBits setBit clearBit freeFrom validCompletion completionReserved readCompletion powerAmong eachFrom windowRight apart windowsRight settingsRight settingsNumber holds firstFrom windowOf translated endFrom burstRight burstNumber lengthOf pieceCount pieceFirst pieceEnd pieceAt addresses some decodeBits isDecodeBit byte strobe strobed reached errorBits isErrorBit clears cleared numbered writeBuses localWrite raised fresh route dataWord raisedCore opened counted shut freed freeSlotFrom responseOf refusalResponse refusalChange refusal accepted refused freshCore freshBridge newBridge pcieOf readRefusal claimed readTo readStep configNumber localCore routedBridge configStep memoryVerdict configVerdict faulted failed finished pieceClosed advanced memoryCompleted configAnswer configCompleted verdictOf completionOf completeRefusal expected completed timedOut expire expireTo ticked dropSlot dropSlots linkLost linked stateIn takeNumber looked slotFreed releaseStep
+unfolding bit isSet fromBits setBit clearBit freeFrom validCompletion completionReserved readCompletion powerAmong eachFrom windowRight apart windowsRight settingsRight settingsNumber holds firstFrom windowOf translated endFrom burstRight burstNumber lengthOf pieceCount pieceFirst pieceEnd pieceAt addresses some decodeBits isDecodeBit byte strobe strobed reached errorBits isErrorBit clears cleared numbered writeBuses localWrite raised fresh route dataWord raisedCore opened counted shut freed freeSlotFrom responseOf refusalResponse refusalChange refusal accepted taken refused freshCore freshBridge newBridge pcieOf readRefusal claimed readTo readStep configNumber localCore routedBridge configStep memoryVerdict configVerdict faulted failed finished pieceClosed advanced memoryCompleted configAnswer configCompleted verdictOf completionOf completeRefusal expected completed timedOut expire expireTo ticked dropSlot dropSlots linkLost linked stateIn takeNumber looked slotFreed releaseStep
 registers-old = refl
 
 registers-new : registersOf (new .bridge) ≡ cleared-registers
-unfolding bit isSet fromBits setBit clearBit freeFrom validCompletion completionReserved readCompletion powerAmong eachFrom windowRight apart windowsRight settingsRight settingsNumber holds firstFrom windowOf translated endFrom burstRight burstNumber lengthOf pieceCount pieceFirst pieceEnd pieceAt addresses some decodeBits isDecodeBit byte strobe strobed reached errorBits isErrorBit clears cleared numbered writeBuses localWrite raised fresh route dataWord raisedCore opened counted shut freed freeSlotFrom responseOf refusalResponse refusalChange refusal accepted refused freshCore freshBridge newBridge pcieOf readRefusal claimed readTo readStep configNumber localCore routedBridge configStep memoryVerdict configVerdict faulted failed finished pieceClosed advanced memoryCompleted configAnswer configCompleted verdictOf completionOf completeRefusal expected completed timedOut expire expireTo ticked dropSlot dropSlots linkLost linked stateIn takeNumber looked slotFreed releaseStep
+unfolding bit isSet fromBits setBit clearBit freeFrom validCompletion completionReserved readCompletion powerAmong eachFrom windowRight apart windowsRight settingsRight settingsNumber holds firstFrom windowOf translated endFrom burstRight burstNumber lengthOf pieceCount pieceFirst pieceEnd pieceAt addresses some decodeBits isDecodeBit byte strobe strobed reached errorBits isErrorBit clears cleared numbered writeBuses localWrite raised fresh route dataWord raisedCore opened counted shut freed freeSlotFrom responseOf refusalResponse refusalChange refusal accepted taken refused freshCore freshBridge newBridge pcieOf readRefusal claimed readTo readStep configNumber localCore routedBridge configStep memoryVerdict configVerdict faulted failed finished pieceClosed advanced memoryCompleted configAnswer configCompleted verdictOf completionOf completeRefusal expected completed timedOut expire expireTo ticked dropSlot dropSlots linkLost linked stateIn takeNumber looked slotFreed releaseStep
 registers-new = refl
 
 at-alike : AtAlike

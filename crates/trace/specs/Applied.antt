@@ -1,7 +1,7 @@
 -- The claims of demand 3 at the example: what each asks holds there (the records `At..`), and what each then says.
 use Prim.Native.Nat.{ℕ, _+_, _≤_, _<_}
 use mathlib.Core.Path.{_≡_}
-use mathlib.Core.List.{List, [], _∷_, _++_}
+use mathlib.Core.List.{List, [], _∷_, _++_, map}
 use mathlib.Core.Bool.{true, false}
 use lib.ListN.{length, replicate}
 use Rattle.machine.specs.State.{freeSlot, registersOf}
@@ -11,7 +11,7 @@ use Rattle.machine.specs.Completions.{storeSize, Held}
 use Rattle.machine.specs.Take.{looked}
 use Rattle.trace.specs.Events.{read, config, Event, call, completion, tick, link, look, release, step, run, start, seen}
 use Rattle.trace.specs.FarSide.{requests, paired, FarSide}
-use Rattle.trace.specs.Claims.{Answered, AnsweredOkay, Untaken, Until, sentFor, Bytes, ticks, ReadDeadline, ConfigDeadline, Steady, goodBytes, ReadOkay, anyGoodWord, ConfigOkay, LocalOkay, Left, Alike}
+use Rattle.trace.specs.Claims.{Answered, AnsweredOkay, Untaken, Until, sentFor, Bytes, ticks, ReadDeadline, ConfigDeadline, Steady, goodBytes, ReadOkay, anyGoodWord, ConfigOkay, LocalOkay, Left, sessionless, Alike}
 use Rattle.trace.specs.Example.{settings, store, begun, four, ten, setBuses, onBus1, g1, sent, before, during, toConfig, events, tenBytes}
 
 -- ---- the read of ten bytes: it is called here, takes slot 0 and is answered there
@@ -125,7 +125,7 @@ pub record AtAlike : Type 0 where
   pub registers : registersOf (old .bridge) ≡ registersOf (new .bridge)
 
 abbrev pub AlikeThere : Type 0
-AlikeThere = Alike → (later : List Event) → seen old later ≡ seen new later
+AlikeThere = Alike → (later : List Event) → map sessionless (seen old later) ≡ map sessionless (seen new later)
 
 -- ---- all
 

@@ -2,7 +2,7 @@
 use Prim.Native.Nat.{ℕ, _+_, _%_, _*_, _≤_, _<_}
 use mathlib.Core.Path.{_≡_}
 use mathlib.Core.Logic.{_⊎_}
-use mathlib.Core.List.{List, [], _∷_, _++_, flatMap}
+use mathlib.Core.List.{List, [], _∷_, _++_, map, flatMap}
 use mathlib.Core.Option.{Option, none, some}
 use mathlib.Core.Bool.{Bool, true, false, cond, not, _&&_}
 use lib.ListN.{length}
@@ -14,6 +14,8 @@ use Rattle.address.specs.declared.Settings.{Settings}
 use Rattle.burst.specs.declared.Burst.{Burst}
 use Rattle.burst.specs.Bursts.{lengthOf}
 use Rattle.burst.specs.Pieces.{addresses}
+use Rattle.parts.specs.declared.Answer.{Answer}
+use Rattle.parts.specs.declared.Figures.{Figures}
 use Rattle.machine.specs.Bridge.{Bridge}
 use Rattle.refusals.specs.declared.Response.the-variants.{Okay}
 use Rattle.machine.specs.State.{freeSlot, registersOf}
@@ -22,7 +24,7 @@ use Rattle.machine.specs.Config.{Access, routeOf, goesOut, configRefusal}
 use Rattle.machine.specs.Verdict.{useful, configShape}
 use Rattle.machine.specs.Completions.{storeSize, Held, completionOf}
 use Rattle.machine.specs.Take.{stateOf, takeRefusal, looked, releaseStep}
-use Rattle.trace.specs.Events.{read, config, releases, Event, call, completion, tick, link, step, run, start, seen}
+use Rattle.trace.specs.Events.{read, config, releases, Event, call, completion, tick, link, step, run, start, Seen, seen}
 use Rattle.trace.specs.FarSide.{bytesSent, requests, paired, carries, FarSide}
 
 -- ---- answered and taken
@@ -205,14 +207,37 @@ pub record Left (h : Held) : Type 0 where
   -- with the link down no slot is open, so free and taken are the same
   pub taken : (k : ℕ) → k < 9 → stateOf (h .bridge) k ≡ 0
 
--- the same number, response, slot, bytes sent, data word and look's bytes, and equal registers after, event by event. There is
--- no further answer: the interrupt line is a function of the registers, and `take_number` gives the look's number
+-- 'compares answers apart from their session numbers': what is seen, with 0 in their place
+abbrev pub withoutSession : Figures → Figures
+withoutSession f = record { session = 0 }
+
+abbrev pub answerApart : Answer → Answer
+answerApart a =
+    record {
+      number = a .number;
+      response = a .response;
+      slot = a .slot;
+      length = a .length;
+      word = a .word;
+      figures = withoutSession (a .figures);
+    }
+
+abbrev pub sessionless : Seen → Seen
+sessionless x =
+    record {
+      out = record { answer = answerApart (x .out .answer); sent = x .out .sent; part = x .out .part };
+      registers = x .registers;
+    }
+
+-- the same number, response, slot, bytes sent, data word and look's bytes, and equal registers after, event by event; session
+-- counters may differ, and with them the session numbers. There is no further answer: the interrupt line is a function of the
+-- registers, and `take_number` gives the look's number
 abbrev pub Alike : Type 0
 Alike =
     (x y : Held) → Left x → Left y
     → x .bridge .settings ≡ y .bridge .settings
     → registersOf (x .bridge) ≡ registersOf (y .bridge)
-    → (later : List Event) → seen x later ≡ seen y later
+    → (later : List Event) → map sessionless (seen x later) ≡ map sessionless (seen y later)
 
 -- ---- DEMAND 3
 

@@ -179,31 +179,33 @@ events = toConfig ++ call (config onBus1 areaSize) ∷ after
 
 -- ---- what it shows
 
--- of each event: number, response, data word and look's bytes
+-- of each event: number, response, data word, look's bytes and session number
 pub record Told : Type 0 where
   pub number : ℕ
   pub response : Response
   pub word : ℕ
   pub part : List ℕ
+  pub session : ℕ
 
-abbrev pub told : ℕ → Response → ℕ → List ℕ → Told
-told n r w p = record { number = n; response = r; word = w; part = p }
+abbrev pub told : ℕ → Response → ℕ → List ℕ → ℕ → Told
+told n r w p s = record { number = n; response = r; word = w; part = p; session = s }
 
 abbrev pub toldOf : Seen → Told
-toldOf x = told (x .out .answer .number) (x .out .answer .response) (x .out .answer .word) (x .out .part)
+toldOf x = told (x .out .answer .number) (x .out .answer .response) (x .out .answer .word) (x .out .part) (x .out .answer .figures .session)
 
 -- accepted, and nothing else to tell; refused with no response
 abbrev pub done : Told
-done = told 0 Nothing 0 []
+done = told 0 Nothing 0 [] 0
 
 abbrev pub refusedBy : ℕ → Told
-refusedBy n = told n Nothing 0 []
+refusedBy n = told n Nothing 0 [] 0
 
-abbrev pub gives : Response → ℕ → Told
-gives r w = told 0 r w []
+-- taken, with the session in which the access was accepted
+abbrev pub gives : Response → ℕ → ℕ → Told
+gives r w s = told 0 r w [] s
 
 abbrev pub part : List ℕ → Told
-part p = told 0 Nothing 0 p
+part p = told 0 Nothing 0 p 0
 
 abbrev pub tenBytes : List ℕ
 tenBytes = 31 ∷ 32 ∷ 33 ∷ 34 ∷ 35 ∷ 36 ∷ 37 ∷ 38 ∷ 39 ∷ 40 ∷ []
@@ -212,15 +214,15 @@ abbrev pub answers : List Told
 answers =
     done
     ∷ done ∷ done ∷ refusedBy 14 ∷ done
-    ∷ done ∷ refusedBy 13 ∷ refusedBy 13 ∷ part (0 ∷ 0 ∷ 0 ∷ 0 ∷ []) ∷ gives Slverr 0
-    ∷ done ∷ done ∷ gives Slverr 0
-    ∷ done ∷ done ∷ gives Slverr 0
-    ∷ done ∷ done ∷ gives Decerr 0
-    ∷ done ∷ done ∷ done ∷ refusedBy 12 ∷ done ∷ part tenBytes ∷ gives Okay 0
-    ∷ done ∷ gives Okay 0
-    ∷ done ∷ done ∷ part [] ∷ gives Okay 0x12345678
-    ∷ done ∷ done ∷ done ∷ part (0 ∷ 0 ∷ 0 ∷ 0 ∷ []) ∷ gives Slverr 0
-    ∷ done ∷ done ∷ part (51 ∷ 52 ∷ 53 ∷ 54 ∷ []) ∷ gives Okay 0
+    ∷ done ∷ refusedBy 13 ∷ refusedBy 13 ∷ part (0 ∷ 0 ∷ 0 ∷ 0 ∷ []) ∷ gives Slverr 0 1
+    ∷ done ∷ done ∷ gives Slverr 0 1
+    ∷ done ∷ done ∷ gives Slverr 0 1
+    ∷ done ∷ done ∷ gives Decerr 0 1
+    ∷ done ∷ done ∷ done ∷ refusedBy 12 ∷ done ∷ part tenBytes ∷ gives Okay 0 1
+    ∷ done ∷ gives Okay 0 1
+    ∷ done ∷ done ∷ part [] ∷ gives Okay 0x12345678 1
+    ∷ done ∷ done ∷ done ∷ part (0 ∷ 0 ∷ 0 ∷ 0 ∷ []) ∷ gives Slverr 0 1
+    ∷ done ∷ done ∷ part (51 ∷ 52 ∷ 53 ∷ 54 ∷ []) ∷ gives Okay 0 2
     ∷ []
 
 -- the requests of a list of events, in the order of their numbers

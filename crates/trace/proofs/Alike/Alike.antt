@@ -1,13 +1,13 @@
 -- The third claim of demand 3: two bridges alike.
 use Prim.Native.Nat.{ℕ, _-_, _^_, _<_}
 use mathlib.Core.Path.{_≡_, refl, sym, _∙_, subst}
-use mathlib.Core.List.{List, [], _∷_}
+use mathlib.Core.List.{List, [], _∷_, map}
 use native.Mathlib.Omega.{arith}
 use Rattle.machine.specs.State.{slotState, tagCount, slotCount, registersOf}
 use Rattle.machine.specs.Completions.{Held}
 use Rattle.trace.specs.Events.{Event, seen}
 use Rattle.trace.specs.Sound.{Sound}
-use Rattle.trace.specs.Claims.{Left, Alike}
+use Rattle.trace.specs.Claims.{Left, sessionless, Alike}
 use Rattle.trace.proofs.Soundness.Fine.{state-below, state-config}
 use Rattle.trace.proofs.Soundness.Sound.{sound-step, run-sound}
 use Rattle.trace.proofs.Alike.Twin.{unused}
@@ -50,14 +50,16 @@ left-pair {x} {y} p q s e =
 
 -- ---- and stay alike
 
-seen-alike : {x y : Held} → Sound x → Pair x y → (later : List Event) → seen x later ≡ seen y later
+seen-alike : {x y : Held} → Sound x → Pair x y → (later : List Event) → map sessionless (seen x later) ≡ map sessionless (seen y later)
 seen-alike v p [] = refl
 seen-alike {x} {y} v p (e ∷ es) =
     let n = next v p e in
-    let o = n .out in
-    let r = n .pair .twin .core .registers in
     let l = seen-alike (sound-step x e v) (n .pair) es in
-    cc
+    λ i. record {
+      out = record { answer = n .answer i; sent = n .sent i; part = n .part i };
+      registers = n .pair .twin .core .registers i;
+    }
+    ∷ l i
 
 pub alike : Alike
 alike x y p q s e later = seen-alike (left-sound x p) (left-pair p q s e) later

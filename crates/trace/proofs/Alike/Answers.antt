@@ -13,29 +13,30 @@ use Rattle.address.specs.Settings.{settingsNumber}
 use Rattle.burst.specs.declared.Burst.{Burst}
 use Rattle.parts.specs.declared.Answer.{Answer}
 use Rattle.parts.specs.declared.ConfigSlot.{ConfigSlot}
-use Rattle.machine.specs.State.{Bridge, Slot, slotAt, slotState, failureOf, slotCount, slotSize, slotOpen, configSlot, accepted, responseOf}
+use Rattle.machine.specs.State.{Bridge, Slot, slotAt, slotState, failureOf, slotCount, slotSize, slotOpen, configSlot, noFigures, taken, responseOf}
 use Rattle.machine.specs.Memory.{readRefusal, readBytes, writeRefusal}
 use Rattle.machine.specs.Config.{Access, routeOf, configNumber, configRefusal, configBytes}
 use Rattle.machine.specs.Completions.{storeSize, Held, sizeOf}
-use Rattle.machine.specs.Take.{stateOf, takeNumber, takeRefusal, looked}
+use Rattle.machine.specs.Take.{stateOf, takeNumber, takeRefusal, looked, figuresOf}
 use Rattle.bridge_laws.proofs.TakeLaws.{passed, take-refused, look-at-slot, look-at-config}
 use Rattle.bridge_laws.proofs.Sends.{accepted-read-sends}
+use Rattle.trace.specs.Claims.{answerApart}
 use Rattle.trace.proofs.Soundness.Fine.{state-below, state-config, state-above}
-use Rattle.trace.proofs.Alike.Twin.{ConfigsLike, equal, unused, like-number, like-equal, Twin}
+use Rattle.trace.proofs.Alike.Twin.{bareSlot, ConfigsLike, equal, unused, like-number, like-equal, Twin}
 use Rattle.trace.proofs.Alike.Stores.{Pair}
 use Rattle.trace.proofs.Alike.Reads.{states-same, slot-same}
 
 -- ---- refusals of requests, and bytes sent
 
 -- an open configuration read
-busy-same : {c d : ConfigSlot} → ConfigsLike c d → eqb (c .state) slotOpen && not (c .write) ≡ eqb (d .state) slotOpen && not (d .write)
-busy-same (equal e) = rw e
-busy-same (unused e f) = rw (e, f)
+busy-same : (c d : ConfigSlot) → ConfigsLike c d → eqb (c .state) slotOpen && not (c .write) ≡ eqb (d .state) slotOpen && not (d .write)
+busy-same c d (equal e) = ap (λ (z : ConfigSlot). eqb (z .state) slotOpen && not (z .write)) e
+busy-same c d (unused e f) = rw (e, f)
 
 module _ {x y : Bridge} (p : Twin x y) where
   pub read-same : (q : Burst) (room : ℕ) → readRefusal x q room ≡ readRefusal y q room
   unfolding readRefusal
-  read-same q room = rw (p .settings, p .core .registers, p .core .free, busy-same (p .core .config), slot-same p)
+  read-same q room = rw (p .settings, p .core .registers, p .core .free, busy-same (x .core .config) (y .core .config) (p .core .config), slot-same p)
 
   pub write-same : (q : Burst) (len room : ℕ) → writeRefusal x q len room ≡ writeRefusal y q len room
   unfolding writeRefusal
@@ -74,7 +75,7 @@ module _ {h g : Held} (p : Pair h g) (k : ℕ) where
     done : k < slotCount → slotState (h .bridge) k ≡ 2
     done l = sym (state-below (h .bridge) k l) ∙ found
 
-    row-same : k < slotCount → slotAt (h .bridge) k ≡ slotAt (g .bridge) k
+    row-same : k < slotCount → bareSlot (slotAt (h .bridge) k) ≡ bareSlot (slotAt (g .bridge) k)
     row-same l = like-equal (p .twin .slots k l) (λ z. omega (arith, z, done l))
 
     slot-part : k < slotCount → looked (h .bridge) (h .store) k ≡ looked (g .bridge) (g .store) k
@@ -94,20 +95,21 @@ module _ {h g : Held} (p : Pair h g) (k : ℕ) where
         by (no l) (yes w) = inr w
         by (no l) (no w) = absurd (omega (arith, found, state-above (h .bridge) k (omega arith)))
 
-    -- what a release answers
+    -- what a release answers is the same apart from the session number
     abbrev given : Bridge → Answer
     given b =
-        cond (ltb k slotCount) (accepted (responseOf (failureOf b k)) 0 0 0)
-        (accepted (responseOf (b .core .config .response)) 0 0 (b .core .config .word))
+        cond (ltb k slotCount) (taken (responseOf (failureOf b k)) 0 (figuresOf b k))
+        (taken (responseOf (b .core .config .response)) (b .core .config .word) (b .core .config .figures))
 
-    pub given-same : given (h .bridge) ≡ given (g .bridge)
+    pub given-same : answerApart (given (h .bridge)) ≡ answerApart (given (g .bridge))
+    unfolding taken
     given-same = by placed
       where
-        by : (k < slotCount) ⊎ (k ≡ configSlot) → given (h .bridge) ≡ given (g .bridge)
-        by (inl l) = rw (lt-ltb k slotCount l) (ap (λ (s : Slot). accepted (responseOf (s .cause)) 0 0 0) (row-same l))
+        by : (k < slotCount) ⊎ (k ≡ configSlot) → answerApart (given (h .bridge)) ≡ answerApart (given (g .bridge))
+        by (inl l) = rw (lt-ltb k slotCount l) (ap (λ (s : Slot). answerApart (taken (responseOf (s .cause)) 0 noFigures)) (row-same l))
         by (inr w) =
             let f : h .bridge .core .config .state ≡ 2 = sym (state-config (h .bridge)) ∙ (ap (stateOf (h .bridge)) (sym w) ∙ found) in
-            rw w (ap (λ (c : ConfigSlot). accepted (responseOf (c .response)) 0 0 (c .word)) (like-equal (p .twin .core .config) (λ n. omega (arith, f))))
+            rw w (ap (λ (c : ConfigSlot). answerApart (taken (responseOf (c .response)) (c .word) (c .figures))) (like-equal (p .twin .core .config) (λ n. omega (arith, f))))
 
   pub looked-same : looked (h .bridge) (h .store) k ≡ looked (g .bridge) (g .store) k
   looked-same = by (ℕ-discrete (takeRefusal (h .bridge) (length (h .store)) k) 0)

@@ -10,12 +10,12 @@ use lib.Dec.{eqb}
 use borrow.Author.Tests.{eqb-true, eqb-false, le-ltb}
 use Rattle.machine.specs.State.{Slot, tagAt, slotAt, slotState, tagCount, slotCount, slotSize, slverr, coreIn}
 use Rattle.machine.specs.Completions.{storeSize, Held, held, zeroed, configDone}
-use Rattle.machine.specs.Ticks.{linkIn, dropSlots, linkLost, linked}
+use Rattle.machine.specs.Ticks.{sessionAfter, linkTo, dropSlots, linkLost, linked}
 use Rattle.bridge_laws.specs.Rows.{droppedStore, droppedTo, lostSlot}
 use Rattle.bridge_laws.specs.Effects.{Lost}
 use Rattle.bridge_laws.proofs.Effects.{drop-loses}
 use Rattle.bridge_laws.proofs.Parts.{same-missing}
-use Rattle.trace.proofs.Alike.Twin.{Like, equal, unused, like-of, SlotsLike, Twin, config-cores, free-cores, link-cores, raised-cores, twin-of}
+use Rattle.trace.proofs.Alike.Twin.{Like, equal, unused, like-of, SlotsLike, bareSlot, bare-dropped, bare-lost, Twin, config-cores, free-cores, session-cores, link-cores, raised-cores, twin-of}
 use Rattle.trace.proofs.Alike.Stores.{Still, still, still-then, SameAt, Room, zeroed-still, zeroed-same, Gap, Shown, Pair, core-pair}
 
 -- ---- the slots and the cores
@@ -29,19 +29,20 @@ lost-twin : {h g x y : Held} → Pair h g → Lost h x → Lost g y → Twin (x 
 lost-twin {h} {g} {x} {y} p a b =
     let c = p .twin .core in
     twin-of (p .twin) (a .settings) (b .settings) (a .core) (b .core)
-    (raised-cores (link-cores (free-cores (config-cores c (drop-like (λ z. configDone z slverr 0) (c .config))) (λ w. 2 ^ tagCount - 1)) false) 0)
+    (raised-cores (link-cores (free-cores (config-cores c (like-of (bare-lost (h .bridge .core .config)) (bare-lost (g .bridge .core .config)) (drop-like (λ z. configDone z slverr 0) (c .config)))) (λ w. 2 ^ tagCount - 1)) false) 0)
     (λ t. unused (same-missing (a .tag t)) (same-missing (b .tag t)))
-    (λ k l. like-of (a .slot k l) (b .slot k l)
+    (λ k l.
+    like-of (ap bareSlot (a .slot k l) ∙ bare-dropped (slotAt (h .bridge) k)) (ap bareSlot (b .slot k l) ∙ bare-dropped (slotAt (g .bridge) k))
     (drop-like lostSlot (p .twin .slots k l)))
     (a .tables) (b .tables)
 
 -- ---- the stores: a read that was open is zero in both
 
-dropped : {k : ℕ} {d e : List ℕ} {r s : Slot} → Room k d e → SlotsLike r s
+dropped : {k : ℕ} {d e : List ℕ} (r s : Slot) → Room k d e → SlotsLike r s
     → Still d e (droppedStore k r d) (droppedStore k s e)
     × (r .state ≡ 1 → (i : ℕ) → i < min (r .size) slotSize → SameAt k i (droppedStore k r d) (droppedStore k s e))
-dropped {k} {d} {e} {r} {s} w (equal q) =
-    subst (λ z. Still d e (droppedStore k r d) (droppedStore k z e) × (r .state ≡ 1 → (i : ℕ) → i < n → SameAt k i (droppedStore k r d) (droppedStore k z e))) q
+dropped {k} {d} {e} r s w (equal q) =
+    subst (λ (z : Slot). Still d e (droppedStore k r d) (droppedStore k z e) × (r .state ≡ 1 → (i : ℕ) → i < n → SameAt k i (droppedStore k r d) (droppedStore k z e))) q
     (by (eqb (r .state) 1) refl)
   where
     n : ℕ
@@ -51,7 +52,7 @@ dropped {k} {d} {e} {r} {s} w (equal q) =
         × (r .state ≡ 1 → (i : ℕ) → i < n → SameAt k i (cond z (zeroed k n d) d) (cond z (zeroed k n e) e))
     by true f = (zeroed-still w n (omega arith), λ g. zeroed-same w n (omega arith))
     by false f = (still, λ g. absurd (eqb-false _ _ f g))
-dropped w (unused q f) = (rw (q, f) still, λ g. absurd (omega arith))
+dropped r s w (unused q f) = (rw (q, f) still, λ g. absurd (omega arith))
 
 -- the store when the slots below n have been dropped
 abbrev after : Held → ℕ → List ℕ
@@ -67,7 +68,7 @@ module _ {h g : Held} (p : Pair h g) where
   drops (suc n) l =
       let q = drops n (omega arith) in
       let w : Room n (after h n) (after g n) = record { small = l; early = rw (q .stores .early) (p .early); late = rw (q .stores .late) (p .late) } in
-      let s = dropped w (p .twin .slots n l) in
+      let s = dropped (slotAt (h .bridge) n) (slotAt (g .bridge) n) w (p .twin .slots n l) in
       record { stores = still-then (q .stores) (s .0); zeroes = λ k m f i v. by q (s .0) (s .1) k m f i v (ℕ-discrete k n) }
     where
       by : Drops n → Still (after h n) (after g n) (after h (suc n)) (after g (suc n))
@@ -104,8 +105,8 @@ module _ {h g : Held} (p : Pair h g) where
       (by (not up && h .bridge .core .registers .link)))
     where
       choice : Held → Bool → Held
-      choice x z = cond z (dropSlots (held (linkLost (x .bridge)) (x .store)) slotCount) (held (coreIn (linkIn up (x .bridge .core)) (x .bridge)) (x .store))
+      choice x z = cond z (dropSlots (held (linkLost (x .bridge)) (x .store)) slotCount) (held (coreIn (linkTo up (x .bridge .core)) (x .bridge)) (x .store))
 
       by : (z : Bool) → Pair (choice h z) (choice g z)
       by true = lost-pair (drop-loses h (p .twin .early)) (drop-loses g (p .twin .late))
-      by false = core-pair p (linkIn up) (link-cores (p .twin .core) up)
+      by false = core-pair p (linkTo up) (link-cores (session-cores (p .twin .core) (sessionAfter up (h .bridge .core)) (sessionAfter up (g .bridge .core))) up)

@@ -16,7 +16,7 @@ use Rattle.machine.specs.Completions.{Held, held, usefulBytes, configAnswer, co
 use Rattle.bridge_laws.specs.Rows.{faultedSlot, closedSlot, closedStore, countedTag, shutTag, notedSlot}
 use Rattle.bridge_laws.specs.Effects.{Acts, same, Serves, good-part, good-last, poison-part, poison-last, fails}
 use Rattle.bridge_laws.proofs.Parts.{same-place, same-owner}
-use Rattle.trace.proofs.Alike.Twin.{equal, unused, like-equal, Cores, tag-same, like-number, config-cores, freed-cores, raised-cores}
+use Rattle.trace.proofs.Alike.Twin.{equal, unused, bareSlot, bare-closed, bare-faulted, bare-answer, like-equal, Cores, tag-same, like-number, config-cores, freed-cores, raised-cores}
 use Rattle.trace.proofs.Alike.Stores.{Still, still, still-then, SameAt, Room, Gap, Shown, Pair, closed-shown, act-pair, put-still, put-same, gap-of, shown-still}
 use Rattle.parts.specs.declared.ConfigSlot.{ConfigSlot}
 use Rattle.verdict.specs.declared.Cause.the-variants.{Poison}
@@ -69,7 +69,7 @@ pub record Waits (b : Bridge) (t k : ℕ) : Type 0 where
   pub slot : Failable (slotAt b k)
 
 module _ {h g : Held} (p : Pair h g) {t k : ℕ} (w : Waits (h .bridge) t k) where
-  row-same : slotAt (h .bridge) k ≡ slotAt (g .bridge) k
+  row-same : bareSlot (slotAt (h .bridge) k) ≡ bareSlot (slotAt (g .bridge) k)
   row-same = like-equal (p .twin .slots k (w .small)) (w .slot .used)
 
   place-same : placeOf (h .bridge) t ≡ placeOf (g .bridge) t
@@ -79,8 +79,11 @@ module _ {h g : Held} (p : Pair h g) {t k : ℕ} (w : Waits (h .bridge) t k) whe
   room = record { small = w .small; early = p .early; late = p .late }
 
   -- what a failure at the tag's place makes of the slot is the same
-  fault-same : (code : ℕ) → faultedSlot (placeOf (h .bridge) t) code (slotAt (h .bridge) k) ≡ faultedSlot (placeOf (g .bridge) t) code (slotAt (g .bridge) k)
-  fault-same code = λ i. faultedSlot (place-same i) code (row-same i)
+  fault-same : (code : ℕ)
+      → bareSlot (faultedSlot (placeOf (h .bridge) t) code (slotAt (h .bridge) k)) ≡ bareSlot (faultedSlot (placeOf (g .bridge) t) code (slotAt (g .bridge) k))
+  fault-same code =
+      bare-faulted (placeOf (h .bridge) t) code (slotAt (h .bridge) k)
+      ∙ ((λ i. faultedSlot (place-same i) code (row-same i)) ∙ sym (bare-faulted (placeOf (g .bridge) t) code (slotAt (g .bridge) k)))
 
   spoiled : (code : ℕ) → code ≢ 0 → faultedSlot (placeOf (h .bridge) t) code (slotAt (h .bridge) k) .cause ≢ okay
   spoiled code n = let m = w .opened in fault-marks (placeOf (h .bridge) t) code (slotAt (h .bridge) k) (omega (arith, w .inside)) n (w .slot)
@@ -96,7 +99,7 @@ module _ {h g : Held} (p : Pair h g) {t k : ℕ} (w : Waits (h .bridge) t k) whe
     close-pair : (u u' : Slot → Slot) {d e : List ℕ}
         → Acts t k f (λ s. closedSlot (u s)) c (h .bridge) (x .bridge)
         → Acts t k f (λ s. closedSlot (u' s)) c (g .bridge) (y .bridge)
-        → u (slotAt (h .bridge) k) ≡ u' (slotAt (g .bridge) k)
+        → bareSlot (u (slotAt (h .bridge) k)) ≡ bareSlot (u' (slotAt (g .bridge) k))
         → x .store ≡ closedStore k (u (slotAt (h .bridge) k)) d
         → y .store ≡ closedStore k (u' (slotAt (g .bridge) k)) e
         → Still (h .store) (g .store) d e
@@ -107,9 +110,9 @@ module _ {h g : Held} (p : Pair h g) {t k : ℕ} (w : Waits (h .bridge) t k) whe
     close-pair u u' {d} {e} a b same ex ey s shown last =
         let r : Room k d e = record { small = w .small; early = rw (s .early) (p .early); late = rw (s .late) (p .late) } in
         let z = u (slotAt (h .bridge) k) in
-        let ey' : y .store ≡ closedStore k z e = ey ∙ ap (λ q. closedStore k q e) (sym same) in
+        let ey' : y .store ≡ closedStore k z e = ey ∙ ap (λ (q : Slot). closedStore k q e) (sym same) in
         let q = closed-shown r z shown last in
-        act-pair p a b (λ o. w .owner) core (unused (gone _) (gone _)) (λ l. equal (ap closedSlot same)) (rw (ex, ey') (still-then s (q .0))) (λ l. rw (ex, ey') (q .1))
+        act-pair p a b (λ o. w .owner) core (unused (gone _) (gone _)) (λ l. equal (bare-closed z ∙ (ap closedSlot same ∙ sym (bare-closed (u' (slotAt (g .bridge) k)))))) (rw (ex, ey') (still-then s (q .0))) (λ l. rw (ex, ey') (q .1))
 
     -- it fails
     pub fail-pair : (code : ℕ) → code ≢ 0
@@ -209,5 +212,7 @@ pub word-pair : {h g : Held} (p : Pair h g) (t : ℕ) (payload : List ℕ) (v : 
 word-pair {h} {g} p t payload v l m n =
     let k = ownerOf (h .bridge) t in
     act-pair p (config-serves (h .bridge) t k payload v (p .twin .early) l) (config-serves (g .bridge) t k payload v (p .twin .late) l) (λ o. refl)
-    (freed-cores (config-cores (p .twin .core) (equal (ap (λ (z : ConfigSlot). configAnswer z payload v) (like-equal (p .twin .core .config) n)))) t)
+    (freed-cores (config-cores (p .twin .core) (equal
+    (bare-answer (h .bridge .core .config) payload v
+    ∙ (ap (λ (z : ConfigSlot). configAnswer z payload v) (like-equal (p .twin .core .config) n) ∙ sym (bare-answer (g .bridge .core .config) payload v))))) t)
     (unused refl refl) (p .twin .slots k) still (λ s. absurd (omega arith))

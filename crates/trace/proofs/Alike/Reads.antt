@@ -21,7 +21,7 @@ use Rattle.burst.proofs.Cut.{div-mono}
 use Rattle.burst.proofs.Words.{limit-words}
 use Rattle.parts.specs.Cores.{Core}
 use Rattle.parts.specs.declared.Pending.{Pending}
-use Rattle.machine.specs.State.{Bridge, tagAt, slotAt, tagCount, slotCount, withConfig, openConfig, opened, freeSlot, freeSlotFrom}
+use Rattle.machine.specs.State.{Bridge, tagAt, slotAt, tagCount, slotCount, withConfig, openConfig, figuresNow, opened, freeSlot, freeSlotFrom}
 use Rattle.machine.specs.Memory.{piecesOf, pieceOf, piecePending, claimed, readTo, readRefusal, readBridge}
 use Rattle.machine.specs.Config.{Access, routedBridge, wordPending}
 use Rattle.machine.specs.Completions.{Held, held}
@@ -60,7 +60,7 @@ module _ {x y : Bridge} (q : Burst) (p : Twin x y) where
   turns-twin k l n m =
       let a = claimed-acts 0 k q x (p .early) l in
       let b = claimed-acts 0 k q y (p .late) l in
-      let w = act-twin p a b (p .core) (p .tags 0) (λ i. equal (ap (λ (s : Settings). waitingSlot (lengthOf q) (piecesOf (s .reads) q)) (p .settings))) in
+      let w = act-twin p a b (p .core) (p .tags 0) (λ i. equal (ap (λ (s : Settings). waitingSlot (lengthOf q) (piecesOf (s .reads) q) 0) (p .settings))) in
       let asks : ℕ → Settings → Pending = λ i s. piecePending k s q (pieceOf (s .reads) q i) in
       each-piece-both k q (claimed k q x) (claimed k q y) (w .core .free) Twin w
       (λ i u v c d r. subst (λ s. Twin (opened (asks i (claimed k q x .settings)) u) (opened (asks i s) v)) (w .settings) (opened-twin (asks i (claimed k q x .settings)) r c d))
@@ -153,7 +153,7 @@ routed-pair {h} {g} a v p some =
     let y = g .bridge in
     let c = p .twin .core in
     act-pair p (routed-acts x a slotCount (p .twin .early) some)
-    (subst (λ f. Acts (lowest tagCount f) slotCount (λ o. pendingTag (y .core .ticks) (wordPending (a .write))) same (λ z. takenCore (withConfig (openConfig (a .write)) z)) y (routedBridge y a))
+    (subst (λ f. Acts (lowest tagCount f) slotCount (λ o. pendingTag (y .core .ticks) (wordPending (a .write))) same (λ z. takenCore (withConfig (openConfig (a .write) (figuresNow z)) z)) y (routedBridge y a))
     (sym (c .free)) (routed-acts y a slotCount (p .twin .late) (rw (c .free) at some)))
     (λ o. never (sym (lowest-is tagCount (x .core .free) some .tag .free) ∙ v .tags (lowest tagCount (x .core .free)) o .used))
     (taken-cores (config-cores c (equal refl))) (pending-like (x .core .ticks) (y .core .ticks) (wordPending (a .write)) (p .twin .early-clock) (p .twin .late-clock))

@@ -20,6 +20,7 @@ use Rattle.machine.specs.Messages.{messageNumber, messageStep}
 use Rattle.machine.specs.Take.{releaseStep}
 use Rattle.machine.proofs.Configs.{passed}
 use Rattle.trace.specs.Events.{Call, read, write, config, look, release, message, Event, call, completion, tick, link, called, sentBy, step}
+use Rattle.trace.specs.Claims.{answerApart}
 use Rattle.trace.specs.Sound.{Sound}
 use Rattle.trace.proofs.Alike.Twin.{refused-cores, local-cores, message-cores}
 use Rattle.trace.proofs.Alike.Stores.{Pair, core-pair}
@@ -30,15 +31,17 @@ use Rattle.trace.proofs.Alike.Reads.{slot-same, read-pair, routed-pair,
 use Rattle.trace.proofs.Alike.Answers.{read-same, write-same, route-same, config-same, config-bytes, read-bytes, take-same, given-same, looked-same}
 
 pub record Next (h g : Held) (e : Event) : Type 0 where
-  pub out : step h e .out ≡ step g e .out
+  pub answer : answerApart (step h e .out .answer) ≡ answerApart (step g e .out .answer)
+  pub sent : step h e .out .sent ≡ step g e .out .sent
+  pub part : step h e .out .part ≡ step g e .out .part
   pub pair : Pair (step h e .after) (step g e .after)
 
 -- ---- calls
 
 module _ {h g : Held} (v : Sound h) (p : Pair h g) where
-  -- the two answer alike, send the same and stay alike
+  -- the two answer alike but for the session number, send the same and stay alike
   record Both (a b : Answered) (s r : List ℕ) : Type 0 where
-    answer : a .answer ≡ b .answer
+    answer : answerApart (a .answer) ≡ answerApart (b .answer)
     sent : s ≡ r
     pair : Pair (held (a .bridge) (h .store)) (held (b .bridge) (g .store))
 
@@ -83,7 +86,7 @@ module _ {h g : Held} (v : Sound h) (p : Pair h g) where
         pair = subst (λ r. Pair (held (configBridge (h .bridge) a (routeOf (h .bridge) a)) (h .store)) (held (configBridge (g .bridge) a r) (g .store)))
             (route-same (p .twin) a) (config-pair a room e (routeOf (h .bridge) a) refl);
       })
-  call-both (look k) = record { answer = ap plain (take-same p k); sent = refl; pair = p }
+  call-both (look k) = record { answer = ap (λ (n : ℕ). answerApart (plain n)) (take-same p k); sent = refl; pair = p }
   call-both (release k) =
       let b = by-number _ _ _ _ [] [] (take-same p k) (λ e. record { answer = given-same p k e; sent = refl; pair = freed-pair k p }) in
       record { answer = b .answer; sent = refl; pair = b .pair }
@@ -111,7 +114,7 @@ module _ {h g : Held} (v : Sound h) (p : Pair h g) where
   long-enough = rw (le-ltb (length (h .store)) storeSize (p .early), le-ltb (length (g .store)) storeSize (p .late))
 
   pub next : (e : Event) → Next h g e
-  next (call c) = let b = call-both c in record { out = λ i. record { answer = b .answer i; sent = b .sent i; part = part-same c i }; pair = b .pair }
-  next (completion i s) = record { out = λ j. record { answer = plain (complete-same p s j); sent = []; part = [] }; pair = completed-pair h g s v p }
-  next tick = record { out = λ j. record { answer = plain (long-enough j); sent = []; part = [] }; pair = ticked-pair h g v p }
-  next (link up) = record { out = λ j. record { answer = plain (long-enough j); sent = []; part = [] }; pair = linked-pair p up }
+  next (call c) = let b = call-both c in record { answer = b .answer; sent = b .sent; part = part-same c; pair = b .pair }
+  next (completion i s) = record { answer = λ j. answerApart (plain (complete-same p s j)); sent = refl; part = refl; pair = completed-pair h g s v p }
+  next tick = record { answer = λ j. answerApart (plain (long-enough j)); sent = refl; part = refl; pair = ticked-pair h g v p }
+  next (link up) = record { answer = λ j. answerApart (plain (long-enough j)); sent = refl; part = refl; pair = linked-pair p up }

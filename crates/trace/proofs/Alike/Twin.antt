@@ -1,26 +1,32 @@
--- Two bridges alike: all that an event can look at is the same in both. Counters may differ, and so may what is kept of a tag
--- that is not open and of a slot that is free.
+-- Two bridges alike: all that an event can look at is the same in both. Counters may differ, of ticks and of sessions, and with
+-- them the session numbers of answers; and so may what is kept of a tag that is not open and of a slot that is free.
 use Prim.Native.Nat.{ℕ, _^_, _<_}
 use mathlib.Core.Path.{_≡_, refl, sym, ap, _∙_, subst}
 use mathlib.Core.Logic.{_≢_}
-use mathlib.Core.Bool.{Bool, cond}
+use mathlib.Core.Bool.{Bool, true, false, cond}
 use native.Mathlib.Omega.{arith}
 use native.Mathlib.Decide.{ℕ-discrete}
+use lib.Dec.{ltb, leb, eqb}
 use Rattle.bits.specs.Bits.{setBit, clearBit}
 use Rattle.tags.specs.Tags.{lowest}
 use Rattle.ecam.specs.Registers.{Registers}
 use Rattle.ecam.specs.Registers.{localRead, messaged}
 use mathlib.Core.List.{List}
 use Rattle.parts.specs.declared.ConfigSlot.{ConfigSlot}
-use Rattle.parts.specs.Cores.{Core}
+use Rattle.parts.specs.Cores.{Core, withSession}
 use Rattle.parts.specs.declared.Pending.{Pending}
-use Rattle.machine.specs.State.{Bridge, Tag, Slot, tagAt, slotAt, Open, tagCount, slotCount, withRegisters, withFree, withConfig, doneConfig, okay, raisedCore, refusalChange}
+use Rattle.machine.specs.State.{Bridge, Tag, Slot, tagAt, slotAt, Open, tagCount, slotCount, slotOpen, slverr, withRegisters, withFree, withConfig, doneConfig, noFigures, okay, raisedCore, refusalChange}
+use Rattle.verdict.specs.declared.Cause.the-variants.{Timeout, UnsupportedRequest, RequestRetry, CompleterAbort, Poison}
+use Rattle.verdict.specs.declared.Verdict.{Verdict}
+use Rattle.verdict.specs.declared.Verdict.the-variants.{Unexpected, Good, Poisoned, Failed}
+use Rattle.machine.specs.Completions.{configAnswer, configDone}
 use Rattle.machine.specs.Config.{Access, localCore}
-use Rattle.machine.specs.Ticks.{nextTick, ageOf, withLink, linkIn}
+use Rattle.machine.specs.Ticks.{nextTick, ageOf, withLink, linkIn, dropConfig}
 use Rattle.bridge_laws.specs.MemoryLaws.{Tables}
-use Rattle.bridge_laws.specs.Rows.{pendingTag, freedCore, takenCore}
+use Rattle.bridge_laws.specs.Rows.{pendingTag, notedSlot, faultedSlot, finishedSlot, fewerSlot, closedSlot, lostSlot, droppedSlot, freedCore, takenCore}
 use Rattle.bridge_laws.specs.Effects.{Acts}
 use Rattle.bridge_laws.proofs.Parts.{same-missing, same-sent, same-owner, same-place, same-next, same-kind}
+use Rattle.trace.specs.Claims.{withoutSession}
 use Rattle.bridge_laws.proofs.Cores.{Registered, raised-core, refusal-core, local-core, raised-same, refusal-same, local-same}
 
 -- ---- the relation
@@ -50,11 +56,19 @@ aged now r =
 abbrev pub TagsLike : ℕ → ℕ → Tag → Tag → Type 0
 TagsLike n m r s = Like (λ (x : Tag). x .missing) (aged n r) (aged m s)
 
+-- a slot, and the configuration slot, apart from the session number
+abbrev pub bareSlot : Slot → Slot
+bareSlot s = record { state = s .state; size = s .size; pieces = s .pieces; fault = s .fault; cause = s .cause; session = 0 }
+
+abbrev pub bareConfig : ConfigSlot → ConfigSlot
+bareConfig c =
+    record { state = c .state; write = c .write; response = c .response; word = c .word; figures = withoutSession (c .figures) }
+
 abbrev pub SlotsLike : Slot → Slot → Type 0
-SlotsLike r s = Like (λ (x : Slot). x .state) r s
+SlotsLike r s = Like (λ (x : Slot). x .state) (bareSlot r) (bareSlot s)
 
 abbrev pub ConfigsLike : ConfigSlot → ConfigSlot → Type 0
-ConfigsLike c d = Like (λ (x : ConfigSlot). x .state) c d
+ConfigsLike c d = Like (λ (x : ConfigSlot). x .state) (bareConfig c) (bareConfig d)
 
 -- cores whose counters are n and m
 pub record Cores (n m : ℕ) (c d : Core) : Type 0 where
@@ -73,6 +87,35 @@ pub record Twin (x y : Bridge) : Type 0 where
   pub late : Tables y
   pub early-clock : x .core .ticks < 2 ^ 32
   pub late-clock : y .core .ticks < 2 ^ 32
+
+-- ---- what a step makes of a slot, apart from its session number, it makes of the slot without one
+
+through : {A B : Type 0} (f : A → B) (z : Bool) (x y : A) → f (cond z x y) ≡ cond z (f x) (f y)
+through f true x y = refl
+through f false x y = refl
+
+pub bare-closed : (s : Slot) → bareSlot (closedSlot s) ≡ closedSlot (bareSlot s)
+bare-closed s = through bareSlot (leb (s .pieces) 1) (finishedSlot s) (fewerSlot s)
+
+pub bare-faulted : (place code : ℕ) (s : Slot) → bareSlot (faultedSlot place code s) ≡ faultedSlot place code (bareSlot s)
+bare-faulted place code s = through bareSlot (ltb place (s .fault)) (notedSlot place code s) s
+
+pub bare-dropped : (s : Slot) → bareSlot (droppedSlot s) ≡ droppedSlot (bareSlot s)
+bare-dropped s = through bareSlot (eqb (s .state) slotOpen) (lostSlot s) s
+
+pub bare-lost : (c : ConfigSlot) → bareConfig (dropConfig c) ≡ dropConfig (bareConfig c)
+bare-lost c = through bareConfig (eqb (c .state) slotOpen) (configDone c slverr 0) c
+
+pub bare-answer : (c : ConfigSlot) (payload : List ℕ) (v : Verdict) → bareConfig (configAnswer c payload v) ≡ configAnswer (bareConfig c) payload v
+unfolding configAnswer
+bare-answer c payload Unexpected = refl
+bare-answer c payload (Good n) = refl
+bare-answer c payload (Poisoned n) = refl
+bare-answer c payload (Failed UnsupportedRequest) = through bareConfig (c .write) (configDone c slverr 0) (configDone c okay 0xFFFFFFFF)
+bare-answer c payload (Failed RequestRetry) = refl
+bare-answer c payload (Failed CompleterAbort) = refl
+bare-answer c payload (Failed Poison) = refl
+bare-answer c payload (Failed Timeout) = refl
 
 module _ {x y : Bridge} (p : Twin x y) where
   pub tag-same : (t : ℕ) → Open x t → aged (x .core .ticks) (tagAt x t) ≡ aged (y .core .ticks) (tagAt y t)
@@ -102,6 +145,10 @@ module _ {n m : ℕ} {c d : Core} (p : Cores n m c d) where
   pub taken-cores : Cores n m (takenCore c) (takenCore d)
   taken-cores = free-cores (λ w. clearBit w (lowest tagCount w))
 
+  -- whatever the session counters are
+  pub session-cores : (i j : ℕ) → Cores n m (withSession i c) (withSession j d)
+  session-cores i j = record { early = p .early; late = p .late; registers = p .registers; free = p .free; config = p .config }
+
   pub link-cores : (up : Bool) → Cores n m (linkIn up c) (linkIn up d)
   link-cores up = record { early = p .early; late = p .late; registers = ap (λ (r : Registers). withLink r up) (p .registers); free = p .free; config = p .config }
 
@@ -113,7 +160,7 @@ module _ {n m : ℕ} {c d : Core} (p : Cores n m c d) where
         late = b .ticks ∙ p .late;
         registers = e;
         free = a .free ∙ (p .free ∙ sym (b .free));
-        config = like-of (a .config) (b .config) (p .config);
+        config = like-of (ap bareConfig (a .config)) (ap bareConfig (b .config)) (p .config);
       }
 
   pub raised-cores : (i : ℕ) → Cores n m (raisedCore i c) (raisedCore i d)
@@ -131,7 +178,7 @@ module _ {n m : ℕ} {c d : Core} (p : Cores n m c d) where
         late = f .ticks ∙ p .late;
         registers = local-same a w c d (p .registers);
         free = e .free ∙ (p .free ∙ sym (f .free));
-        config = equal (e .config ∙ (ap (λ (r : Registers). doneConfig (a .write) okay (cond (a .write) 0 (localRead r w))) (p .registers) ∙ sym (f .config)));
+        config = equal (ap bareConfig (e .config) ∙ (ap (λ (r : Registers). doneConfig (a .write) okay (cond (a .write) 0 (localRead r w)) noFigures) (p .registers) ∙ sym (ap bareConfig (f .config))));
       }
 
   pub message-cores : (s : List ℕ) → Cores n m (withRegisters (messaged (c .registers) s) c) (withRegisters (messaged (d .registers) s) d)
@@ -183,8 +230,8 @@ module _ {t k : ℕ} {f f' : Tag → Tag} {g g' : Slot → Slot} {c c' : Core �
   tag-of u (no d) = like-of (ap (aged (b .core .ticks)) (m .tags u d)) (ap (aged (y .core .ticks)) (n .tags u d)) (p .tags u)
 
   slot-of : (j : ℕ) → j < slotCount → Dec (j ≡ k) → SlotsLike (slotAt x j) (slotAt z j)
-  slot-of j l (yes e) = subst (λ i. SlotsLike (slotAt x i) (slotAt z i)) (sym e) (like-of (m .slot) (n .slot) (slot (rw e at l)))
-  slot-of j l (no d) = like-of (m .slots j d) (n .slots j d) (p .slots j l)
+  slot-of j l (yes e) = subst (λ i. SlotsLike (slotAt x i) (slotAt z i)) (sym e) (like-of (ap bareSlot (m .slot)) (ap bareSlot (n .slot)) (slot (rw e at l)))
+  slot-of j l (no d) = like-of (ap bareSlot (m .slots j d)) (ap bareSlot (n .slots j d)) (p .slots j l)
 
   pub act-twin : Twin x z
   act-twin =

@@ -15,7 +15,7 @@ use Rattle.burst.proofs.Pieces.{accepted-covers}
 use Rattle.burst.proofs.Tiling.{piece-not-empty}
 use Rattle.refusals.specs.declared.Response.{Response}
 use Rattle.refusals.specs.declared.Response.the-variants.{Okay}
-use Rattle.machine.specs.State.{Bridge, tagAt, freeSlot, responseOf, accepted}
+use Rattle.machine.specs.State.{Bridge, tagAt, freeSlot, responseOf, taken as takenAnswer}
 use Rattle.machine.specs.Memory.{pcieOf, pieceOf, readRefusal, readBridge, readStep}
 use Rattle.machine.specs.Completions.{Held, held}
 use Rattle.machine.specs.Take.{stateOf, takeRefusal, looked, releaseStep}
@@ -107,7 +107,7 @@ module _ (sent : ℕ → List (List ℕ)) (h : Held) (q : Burst) (room : ℕ) (s
 
 -- an OKAY answer has no failure
 okay-cause : (h : Held) (k : ℕ) → k < 8 → AnsweredOkay k h → getD (h .bridge .cause) k 0 ≡ 0
-unfolding releaseStep accepted responseOf
+unfolding releaseStep takenAnswer responseOf
 okay-cause h k small a =
     let n = getD (h .bridge .cause) k 0 in
     let e : responseOf n ≡ Okay = rw (eq-eqb (takeRefusal (h .bridge) (length (h .store)) k) 0 (a .answered), lt-ltb k 8 small) at (a .okay) in

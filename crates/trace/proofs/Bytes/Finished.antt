@@ -12,7 +12,7 @@ use lib.Dec.{ltb}
 use borrow.Author.Tests.{eq-eqb, ne-eqb, lt-ltb, le-ltb, ltb-true, ltb-false}
 use Rattle.parts.specs.Cores.{Core}
 use Rattle.parts.specs.declared.ConfigSlot.{ConfigSlot}
-use Rattle.machine.specs.State.{Bridge, slotAt, missingOf, ownerOf, placeOf, sizeOf, responseOf, accepted}
+use Rattle.machine.specs.State.{Bridge, Slot, slotAt, missingOf, ownerOf, placeOf, sizeOf, responseOf, taken}
 use Rattle.machine.specs.Config.{routeOf}
 use Rattle.machine.specs.Completions.{Held, held}
 use Rattle.machine.specs.Take.{stateIn, stateOf, takeRefusal, looked, slotFreed, releaseStep}
@@ -140,10 +140,10 @@ module _ (k : ℕ) (h x : Held) (p : AnswerSame k h x) (a : Answered k h) (b : A
   unfolding releaseStep
   shown-release true z =
       rw (eq-eqb (takeRefusal (x .bridge) (length (x .store)) k) 0 b, eq-eqb (takeRefusal (h .bridge) (length (h .store)) k) 0 a, z)
-      (ap (λ (n : ℕ). accepted (responseOf n) 0 0 0) (same-cause (p .slot (ltb-true k 8 z) .row)))
+      (ap (λ (s : Slot). taken (responseOf (s .cause)) 0 (record { session = s .session })) (p .slot (ltb-true k 8 z) .row))
   shown-release false z =
       rw (eq-eqb (takeRefusal (x .bridge) (length (x .store)) k) 0 b, eq-eqb (takeRefusal (h .bridge) (length (h .store)) k) 0 a, z)
-      (ap (λ (c : ConfigSlot). accepted (responseOf (c .response)) 0 0 (c .word)) (p .config (config-slot (ltb-false k 8 z))))
+      (ap (λ (c : ConfigSlot). taken (responseOf (c .response)) (c .word) (c .figures)) (p .config (config-slot (ltb-false k 8 z))))
 
 -- ---- THE LAW
 

@@ -13,7 +13,7 @@ use Rattle.tags.specs.Tags.{freeTags, lowest, available}
 use Rattle.tags.specs.Laws.{FreeTag, Listed}
 use Rattle.tags.proofs.Tags.{listed-is-free, free-is-listed, take-few-leaves}
 use Rattle.burst.specs.declared.Burst.{Burst}
-use Rattle.machine.specs.State.{Bridge, tagAt, ownerOf, tagCount, Open, freeSlot, withRegisters, withConfig, openConfig}
+use Rattle.machine.specs.State.{Bridge, tagAt, ownerOf, tagCount, Open, freeSlot, withRegisters, withConfig, openConfig, figuresNow}
 use Rattle.machine.specs.Memory.{piecesOf, readRefusal, readBridge, readStep}
 use Rattle.machine.specs.Config.{Access, routeOf, goesOut, configRefusal, localCore, routedBridge, wordPending}
 use Rattle.machine.specs.Completions.{Held, held}
@@ -130,7 +130,7 @@ module _ (h : Held) (a : Access) (room : ℕ) (v : Sound h) (e : configRefusal (
   module _ (g : goesOut (routeOf (h .bridge) a) ≡ true) where
     pub routes-acts : (k : ℕ)
         → Acts (lowest tagCount (h .bridge .core .free)) k (λ o. pendingTag (h .bridge .core .ticks) (wordPending (a .write))) same
-        (λ c. takenCore (withConfig (openConfig (a .write)) c)) (h .bridge) (routedBridge (h .bridge) a)
+        (λ c. takenCore (withConfig (openConfig (a .write) (figuresNow c)) c)) (h .bridge) (routedBridge (h .bridge) a)
     routes-acts k = routed-acts (h .bridge) a k (v .sizes) (passed (h .bridge .core) (routeOf (h .bridge) a) room e .tag g)
 
     routed-spares : (k : ℕ) → stateOf (h .bridge) k ≡ 1 → Spares 0 k (h .bridge) (routedBridge (h .bridge) a)

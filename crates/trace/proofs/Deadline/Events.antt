@@ -15,7 +15,7 @@ use Rattle.parts.specs.declared.ConfigSlot.{ConfigSlot}
 use Rattle.verdict.specs.declared.Verdict.{Verdict}
 use Rattle.machine.specs.State.{Bridge, Tag, Slot, tagAt, slotAt, slotState, missingOf, sentOf, ownerOf, placeOf, isOpen, tagCount, Open, slverr, withTicks, coreIn, withRegisters, withConfig}
 use Rattle.machine.specs.Completions.{Held, held, configDone, configAnswer, isUnexpected, memoryCompleted, configCompleted}
-use Rattle.machine.specs.Ticks.{nextTick, ageOf, isOld, timedOut, expireTo, dropConfig, linkIn}
+use Rattle.machine.specs.Ticks.{nextTick, ageOf, isOld, timedOut, expireTo, dropConfig, linkTo}
 use Rattle.machine.specs.Take.{stateOf}
 use Rattle.bridge_laws.specs.MemoryLaws.{Tables}
 use Rattle.bridge_laws.specs.Rows.{shutTag, faultedSlot, finishedSlot, closedSlot, freedCore}
@@ -223,7 +223,7 @@ module _ (k : ℕ) {h : Held} (v : Sound h) where
 
   link-goes : {up : Bool} {x : Held} → Move h (event.link up) x → Goes 0 k (h .bridge) (x .bridge)
   link-goes (drops l) = lost-goes k (drop-loses h (v .sizes)) (v .clock)
-  link-goes (links up d) = spares-goes (core-spares k (h .bridge) (linkIn up (h .bridge .core)) (v .clock) refl (λ z. refl))
+  link-goes (links up d) = spares-goes (core-spares k (h .bridge) (linkTo up (h .bridge .core)) (v .clock) refl (λ z. refl))
 
   move-goes : (e : Event) {x : Held} → Move h e x → stateOf (h .bridge) k ≡ 1 → Goes (isTick e) k (h .bridge) (x .bridge)
   move-goes (event.call c) m o = spares-goes (call-spares k m v o)

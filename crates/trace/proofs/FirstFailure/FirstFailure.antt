@@ -15,7 +15,7 @@ use Rattle.tlp.specs.declared.completion.CompletionRead.{CompletionRead}
 use Rattle.tlp.specs.declared.completion.CompletionRead.the-variants.{Header, Malformed}
 use Rattle.burst.specs.declared.Burst.{Burst}
 use Rattle.verdict.specs.declared.Verdict.the-variants.{Unexpected}
-use Rattle.machine.specs.State.{Bridge, Slot, slotAt, tagCount, slotCount, missingOf, ownerOf, placeOf, isOpen, withTicks, coreIn, freeSlot, responseOf, accepted}
+use Rattle.machine.specs.State.{Bridge, Slot, slotAt, tagCount, slotCount, missingOf, ownerOf, placeOf, isOpen, withTicks, coreIn, freeSlot, responseOf, taken}
 use Rattle.machine.specs.Memory.{readBridge, readRefusal, readStep}
 use Rattle.machine.specs.Config.{routeOf}
 use Rattle.machine.specs.Verdict.{memoryVerdict}
@@ -120,7 +120,7 @@ first-failure s store long before q room later e untaken steady =
     responded l (q .start .0) k (firstFailed none (failures l (q .start .0) k y later)) (slotAt (run y later .bridge) k) (r .agrees)
 
 release-gives : (h : Held) (k : ℕ) → k < slotCount → Answered k h → releaseStep (h .bridge) (length (h .store)) k .answer .response ≡ responseOf (getD (h .bridge .cause) k 0)
-unfolding releaseStep accepted
+unfolding releaseStep taken
 release-gives h k l a = rw (eq-eqb _ _ a, lt-ltb _ _ l)
 
 pub first-failure-gives : FirstFailureGives

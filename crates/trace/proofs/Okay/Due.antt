@@ -19,7 +19,7 @@ use Rattle.verdict.specs.declared.Verdict.the-variants.{Unexpected}
 use Rattle.machine.specs.State.{Bridge, Tag, tagAt, missingOf, ownerOf, nextAddress, failureOf, Open, isWrite, configWrite, withRegisters, coreIn}
 use Rattle.machine.specs.Verdict.{memoryVerdict, configVerdict}
 use Rattle.machine.specs.Completions.{Held, configCompleted, verdictOf, completionOf}
-use Rattle.machine.specs.Ticks.{linkIn}
+use Rattle.machine.specs.Ticks.{linkTo}
 use Rattle.machine.specs.Take.{stateOf}
 use Rattle.machine.proofs.Judging.{never}
 use Rattle.bridge_laws.specs.Effects.{Serves}
@@ -193,5 +193,5 @@ module _ (k r : ℕ) where
   move-on sent h w es l v (event.completion i s) m d p n z y o = completion-on sent h w es v i s d p o l m
   move-on sent h w es l v event.tick m d p n z y o = spares-on w w event.tick es (tick-all k v m .spares k (y refl)) (λ t q. refl) o
   move-on sent h w es l v (event.link true) (links up j) d p n z y o =
-      spares-on w w (event.link true) es (core-spares k (h .bridge) (linkIn true (h .bridge .core)) (v .clock) refl (λ z. refl)) (λ t q. refl) o
+      spares-on w w (event.link true) es (core-spares k (h .bridge) (linkTo true (h .bridge .core)) (v .clock) refl (λ z. refl)) (λ t q. refl) o
   move-on sent h w es l v (event.link false) m d p n z y o = never n

@@ -12,7 +12,7 @@ use Rattle.address.specs.declared.Settings.{Settings}
 use Rattle.burst.specs.declared.Burst.{Burst}
 use Rattle.parts.specs.Cores.{Core}
 use Rattle.parts.specs.declared.ConfigSlot.{ConfigSlot}
-use Rattle.machine.specs.State.{Bridge, failureOf, freeSlot, configWrite, responseOf, accepted}
+use Rattle.machine.specs.State.{Bridge, failureOf, freeSlot, configWrite, responseOf, taken}
 use Rattle.machine.specs.Memory.{piecesOf, pieceOf, readRefusal, readBridge}
 use Rattle.machine.specs.Config.{Access, routeOf, goesOut, configRefusal, localBridge, routedBridge, wordPending}
 use Rattle.machine.specs.Completions.{Held, held}
@@ -38,11 +38,11 @@ use Rattle.trace.proofs.Okay.Due.{Clean, On, move-on}
 
 -- a finished access with the right answer so far is OKAY
 read-answer : (k : ℕ) → k < 8 → (h : Held) → Sound h → stateOf (h .bridge) k ≡ 2 → failureOf (h .bridge) k ≡ 0 → AnsweredOkay k h
-unfolding releaseStep accepted responseOf
+unfolding releaseStep taken responseOf
 read-answer k l h v s c = let a = finished-answered k h v s in record { answered = a; okay = rw (eq-eqb _ _ a, lt-ltb _ _ l, c) }
 
 config-answer : (h : Held) → Sound h → stateOf (h .bridge) 8 ≡ 2 → h .bridge .core .config .response ≡ 0 → AnsweredOkay 8 h
-unfolding releaseStep accepted responseOf
+unfolding releaseStep taken responseOf
 config-answer h v s c = let a = finished-answered 8 h v s in record { answered = a; okay = rw (eq-eqb _ _ a, c) }
 
 -- ---- along a list with fewer ticks than the limit, in which the link stays

@@ -26,7 +26,7 @@ use Rattle.parts.specs.declared.ConfigSlot.{ConfigSlot}
 use Rattle.parts.specs.Cores.{Core}
 use Rattle.parts.specs.declared.Pending.{Pending}
 use Rattle.parts.proofs.Slots.{inside}
-use Rattle.machine.specs.State.{Bridge, slotAt, tagCount, slotCount, slotSize, missingOf, Open, withFree, withConfig, openConfig, opened, freeSlot, freeSlotFrom, registersOf}
+use Rattle.machine.specs.State.{Bridge, slotAt, tagCount, slotCount, slotSize, missingOf, Open, withFree, withConfig, openConfig, figuresNow, opened, freeSlot, freeSlotFrom, registersOf}
 use Rattle.machine.specs.Memory.{piecesOf, pieceOf, readRefusal, claimed, readBridge, piecePending}
 use Rattle.machine.specs.Config.{Access, routeOf, goesOut, configRefusal, routedBridge, wordPending}
 use Rattle.machine.specs.Ticks.{ageOf}
@@ -151,7 +151,7 @@ module _ {over : ℕ → ℕ} (b : Bridge) (q : Burst) (room : ℕ) (v : FineTo 
   ok : ReadOk b q room
   ok = read-ok b q room e
 
-  claims : Acts 0 k same (λ s. waitingSlot (lengthOf q) all) same b c
+  claims : Acts 0 k same (λ s. waitingSlot (lengthOf q) all (b .core .session)) same b c
   claims = claimed-acts 0 k q b (v .sizes) (ok .slot)
 
   not-open : stateOf b k ≢ 1
@@ -218,4 +218,4 @@ routed-fine b a room v e out =
     let s : stateOf x 8 ≡ 1 = state-config x ∙ ap (λ z. z .config .state) (d .core) in
     let now : piecesIn x 8 ≡ 1 = rw s in
     open-fine (piecesIn x) (wordPending (a .write)) b v (p .tag out) (p .up out) (record { some = omega arith; whole = omega arith; within = λ h. absurd (omega arith) })
-    (openConfig (a .write)) d (d .core) (pieces-there d (λ n. absurd (n refl))) (omega (arith, pieces-not b 8 was, now))
+    (openConfig (a .write) (figuresNow (b .core))) d (d .core) (pieces-there d (λ n. absurd (n refl))) (omega (arith, pieces-not b 8 was, now))

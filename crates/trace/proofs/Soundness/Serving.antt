@@ -81,7 +81,7 @@ module _ (place : ℕ) (why : Cause) (s : Slot) (w : SlotFits s) where
 -- ---- the core
 
 untouched : (c : Core) → Registered c c
-untouched c = record { same = refl; free = refl; ticks = refl; config = refl; link = refl }
+untouched c = record { same = refl; free = refl; ticks = refl; session = refl; config = refl; link = refl }
 
 -- registers differ, and perhaps the configuration slot
 steady : (t : ℕ) (w : ConfigSlot) {c d : Core} → Registered (withConfig w c) d → Steady t c d

@@ -13,7 +13,7 @@ use Rattle.address.specs.Settings.{settingsNumber, exampleSettings}
 use Rattle.address.proofs.Laws.{example-accepted}
 use Rattle.machine.specs.State.{Bridge, Answered, tagCount, slotCount, missingOf, ownerOf, placeOf, refusalChange, refused, freshCore, freshBridge, newBridge, slotAt, Open}
 use Rattle.machine.specs.Completions.{storeSize, Held, held, completionOf}
-use Rattle.machine.specs.Ticks.{ticked, linkIn, linked}
+use Rattle.machine.specs.Ticks.{ticked, linkTo, linked}
 use Rattle.machine.specs.Take.{stateOf, takeRefusal}
 use Rattle.machine.proofs.Judging.{never}
 use Rattle.bridge_laws.proofs.TakeLaws.{passed}
@@ -86,7 +86,7 @@ move-fine {h} (configs {i = i} {s = s} c w e r o l f u) n v =
 move-fine {h} ticks n v = ticked-fine (all-looked (clocked h) (clock-fine h n v))
 move-fine {h} (drops l) n v = lost-fine v (drop-loses h (v .sizes))
 move-fine {h} (links up c) n v =
-    core-fine (h .bridge) (linkIn up (h .bridge .core)) v refl refl (v .clock) (go up c) (λ t m. v .tags t m .young)
+    core-fine (h .bridge) (linkTo up (h .bridge .core)) v refl refl (v .clock) (go up c) (λ t m. v .tags t m .young)
   where
     go : (up : Bool) → (up ≡ true) ⊎ (h .bridge .core .registers .link ≡ false) → up ≡ false → h .bridge .core .registers .link ≡ false
     go up (inl e) f = never (sym e ∙ f)

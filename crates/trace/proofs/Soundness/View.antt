@@ -21,7 +21,7 @@ use Rattle.machine.specs.Memory.{readRefusal, readBridge, readStep, writeRefusa
 use Rattle.machine.specs.Config.{Access, routeOf, goesOut, configRefusal, localBridge, routedBridge, configBridge, configStep}
 use Rattle.machine.specs.Verdict.{memoryVerdict, configVerdict}
 use Rattle.machine.specs.Completions.{storeSize, Held, held, memoryCompleted, configCompleted, nextAddress, verdictOf, completionOf, isUnexpected, completeRefusal, completed}
-use Rattle.machine.specs.Ticks.{nextTick, expireTo, ticked, linkIn, linkLost, dropSlots, linked}
+use Rattle.machine.specs.Ticks.{nextTick, expireTo, ticked, linkTo, linkLost, dropSlots, linked}
 use Rattle.machine.specs.Messages.{messageRefusal, messageBridge, messageStep}
 use Rattle.machine.specs.Take.{takeRefusal, slotFreed, releaseStep}
 use Rattle.parts.specs.Cores.{Core}
@@ -70,7 +70,7 @@ pub data Move (h : Held) : Event → Held → Type 0 where
       → Move h (event.completion i s) (held (configCompleted (h .bridge) (c .tag) (drop 12 s) v) (h .store))
   ticks : Move h event.tick (expireTo (held (coreIn (withTicks (nextTick (h .bridge .core .ticks)) (h .bridge .core)) (h .bridge)) (h .store)) tagCount)
   drops : h .bridge .core .registers .link ≡ true → Move h (event.link false) (dropSlots (held (linkLost (h .bridge)) (h .store)) 8)
-  links : (up : Bool) → (up ≡ true) ⊎ (h .bridge .core .registers .link ≡ false) → Move h (event.link up) (held (coreIn (linkIn up (h .bridge .core)) (h .bridge)) (h .store))
+  links : (up : Bool) → (up ≡ true) ⊎ (h .bridge .core .registers .link ≡ false) → Move h (event.link up) (held (coreIn (linkTo up (h .bridge .core)) (h .bridge)) (h .store))
   releases : {k : ℕ} → takeRefusal (h .bridge) (length (h .store)) k ≡ 0 → Move h (event.call (event.release k)) (held (slotFreed k (h .bridge)) (h .store))
 
 -- ---- there is no other case
@@ -109,7 +109,7 @@ completion-by h i s x n l (memory c v a e r o w f u) = memories c v e r o w f u
 completion-by h i s x n l (config c v a e r o w f u) = configs c v e r o w f u
 
 link-by : (h : Held) (up : Bool) (z : Bool) → h .bridge .core .registers .link ≡ z
-    → Move h (event.link up) (cond (not up && z) (dropSlots (held (linkLost (h .bridge)) (h .store)) 8) (held (coreIn (linkIn up (h .bridge .core)) (h .bridge)) (h .store)))
+    → Move h (event.link up) (cond (not up && z) (dropSlots (held (linkLost (h .bridge)) (h .store)) 8) (held (coreIn (linkTo up (h .bridge .core)) (h .bridge)) (h .store)))
 link-by h true z e = links true (inl refl)
 link-by h false true e = drops e
 link-by h false false e = links false (inr e)
