@@ -53,6 +53,7 @@ fresh-is s =
       words = word-reads;
       line = line-low;
       ticks = refl;
+      session = refl;
       tags = all-free tagCount;
       missing = zeros tagCount;
       slots = slot-free;

@@ -68,6 +68,7 @@ accepted-read-keeps b q room e =
       settings = o .settings ∙ a .settings;
       registers = o .registers ∙ ap (λ (c : Core). c .registers) (a .core);
       ticks = o .ticks ∙ ap (λ (c : Core). c .ticks) (a .core);
+      session = o .session ∙ ap (λ (c : Core). c .session) (a .core);
       config = o .config ∙ ap (λ (c : Core). c .config) (a .core);
       slots = λ k d. opens-slot o k ∙ a .slots k d;
       free = λ t f. o .used t (rw (a .core) f);

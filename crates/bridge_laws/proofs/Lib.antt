@@ -35,5 +35,6 @@ pub mod Counting
 pub mod TickLaws
 pub mod Resting
 pub mod MessageLaws
+pub mod SessionLaws
 pub mod CompletionExamples
 pub mod Examples

@@ -37,7 +37,7 @@ unfolding dropSlot
 slot-core x n =
     either (λ (y : Held). y .bridge .core ≡ x .bridge .core) (eqb (slotState (x .bridge) n) slotOpen) _ _ (λ e. refl) (λ e. refl)
 
-slots-core : (h : Held) → dropSlots h slotCount .bridge .core ≡ h .bridge .core
+pub slots-core : (h : Held) → dropSlots h slotCount .bridge .core ≡ h .bridge .core
 slots-core h = each-slot (λ n x. x .bridge .core ≡ h .bridge .core) h refl (λ n x l p. slot-core x n ∙ p)
 
 -- what the link's bit leaves

@@ -43,6 +43,7 @@ module _ (slot : ℕ) (q : Burst) (b : Bridge) where
     pub settings : x .settings ≡ b .settings
     pub registers : x .core .registers ≡ b .core .registers
     pub ticks : x .core .ticks ≡ b .core .ticks
+    pub session : x .core .session ≡ b .core .session
     pub config : x .core .config ≡ b .core .config
     pub slots : (j : ℕ) → slotAt x j ≡ slotAt b j
     -- tags that are not free stay
@@ -63,6 +64,7 @@ module _ (slot : ℕ) (q : Burst) (b : Bridge) where
     settings = a .settings ∙ p .settings;
     registers = ap (λ (c : Core). c .registers) (a .core) ∙ p .registers;
     ticks = ap (λ (c : Core). c .ticks) (a .core) ∙ p .ticks;
+    session = ap (λ (c : Core). c .session) (a .core) ∙ p .session;
     config = ap (λ (c : Core). c .config) (a .core) ∙ p .config;
     slots = λ j. a .slots j ∙ p .slots j;
     used = λ t f. ap (λ v. isSet v t) taken ∙ (clear-clears w (lowest tagCount w) .others t (other w t m (p .used t f)) ∙ p .used t f);

@@ -113,7 +113,7 @@ look-at-config b store = either (λ (x : List ℕ). x ≡ []) (eqb (takeRefusal 
 -- ---- the release
 
 -- there is no slot past 8
-in-range : (config : ℕ) (states : List ℕ) (k : ℕ) → stateIn config states k ≡ 2 → k ≤ 8
+pub in-range : (config : ℕ) (states : List ℕ) (k : ℕ) → stateIn config states k ≡ 2 → k ≤ 8
 unfolding stateIn
 in-range config states k =
     either (λ (x : ℕ). x ≡ 2 → k ≤ 8) (eqb k 8) _ _ (λ f e. omega (arith, eqb-true k 8 f))

@@ -36,6 +36,7 @@ pub record Fresh (b : Bridge) : Type 0 where
   pub words : (v : ℕ) → localRead (registersOf b) v ≡ cond (eqb v 0x130) 0x0000000B 0
   pub line : lineOf b ≡ false
   pub ticks : b .core .ticks ≡ 0
+  pub session : b .core .session ≡ 0
   pub tags : available tagCount (b .core .free) ≡ tagCount
   pub missing : (t : ℕ) → getD (b .missing) t 0 ≡ 0
   pub slots : (k : ℕ) → stateOf b k ≡ 0

@@ -4,6 +4,7 @@ pub mod Rows
 pub mod MemoryLaws
 pub mod ConfigLaws
 pub mod MessageLaws
+pub mod SessionLaws
 pub mod Effects
 pub mod CompletionLaws
 pub mod TickLaws

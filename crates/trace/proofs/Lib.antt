@@ -6,6 +6,7 @@ pub mod FirstFailure
 pub mod Deadline
 pub mod Okay
 pub mod Alike
+pub mod Sessions
 pub mod Sent
 pub mod Methods
 pub mod Prefix

@@ -5,7 +5,9 @@ pub mod Claims
 pub mod Sound
 pub mod Registers
 pub mod Finished
+pub mod Sessions
 pub mod FirstFailure
 pub mod Methods
 pub mod Example
+pub mod SessionExamples
 pub mod Applied
