@@ -10,7 +10,7 @@ pub enum Response {
     Wait,
 }
 
-/// Number, response, slot, sent length and data word.
+/// Number, response, slot, sent length, data word and session number.
 #[derive(Clone, Copy, Debug, PartialEq, Eq)]
 pub struct Answer {
     pub number: u32,
@@ -18,11 +18,15 @@ pub struct Answer {
     pub slot: u32,
     pub sent: u32,
     pub data: u32,
+    /// The life of the link to which a taken answer belongs (02, request A2); 0
+    /// in every answer but an accepted release's.
+    pub session: u32,
 }
 
 impl Answer {
     /// "A refused call reports sent length, slot and data word 0, and response
-    /// 'none' where its row names neither an AXI response nor 'wait'."
+    /// 'none' where its row names neither an AXI response nor 'wait'." 02:
+    /// "Refused calls report it ... as 0", the session number.
     pub fn refused(number: u32) -> Answer {
         let response = match number {
             2 | 9 => Response::Decerr,
@@ -36,6 +40,7 @@ impl Answer {
             slot: 0,
             sent: 0,
             data: 0,
+            session: 0,
         }
     }
 
@@ -47,6 +52,7 @@ impl Answer {
             slot: 0,
             sent: 0,
             data: 0,
+            session: 0,
         }
     }
 }

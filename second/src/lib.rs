@@ -1,5 +1,6 @@
 //! A second, independent model of the AXI to PCI Express root port bridge,
-//! written from the sentences of document 01 ("01" in the comments).
+//! written from the sentences of documents 01 and 02 ("01" and "02" in the
+//! comments).
 #![forbid(unsafe_code)]
 
 pub mod answer;

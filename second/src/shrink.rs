@@ -1,6 +1,6 @@
 //! Compares two players on one file and shrinks a file on which they differ.
 
-use crate::traffic::{Event, Traffic};
+use crate::traffic::{Event, Making, Traffic};
 
 /// The first line in which two logs differ: its number and both texts.
 #[derive(Clone, Debug, PartialEq, Eq)]
@@ -63,6 +63,7 @@ impl<F: FnMut(&Traffic) -> bool> Shrinker<F> {
         loop {
             let before = (best.events.len(), self.allowance);
             self.remove_chunks(&mut best);
+            self.simplify_header(&mut best);
             self.simplify(&mut best);
             if best.events.len() == before.0 || self.allowance == 0 {
                 return best;
@@ -86,6 +87,21 @@ impl<F: FnMut(&Traffic) -> bool> Shrinker<F> {
                 }
             }
             size /= 2;
+        }
+    }
+
+    /// A first session value of 0, or no such value at all.
+    fn simplify_header(&mut self, best: &mut Traffic) {
+        let Making::ListAndSession(seventh, _) = best.header.making else {
+            return;
+        };
+        for making in [Making::List(seventh), Making::ListAndSession(seventh, 0)] {
+            let mut candidate = best.clone();
+            candidate.header.making = making;
+            if candidate != *best && self.still(&candidate) {
+                *best = candidate;
+                break;
+            }
         }
     }
 

@@ -401,7 +401,7 @@ fn number_14() {
         assert_eq!(b.look(slot), (14, vec![]));
     }
     b.data(0, 4, 0, &[1, 2, 3, 4]);
-    assert_eq!(b.release(0), answer(0, Response::Okay, 0, 0, 0));
+    assert_eq!(b.release(0), taken(Response::Okay, 0, 1));
     b.refuses(expected, |b| b.release(0));
 }
 

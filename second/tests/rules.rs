@@ -80,7 +80,7 @@ fn split_completions_in_any_order_of_pieces() {
     assert_eq!(b.data(1, 6, 8, &run_of(68, 8)), 0);
     let wanted = [run_of(50, 6), run_of(60, 14)].concat();
     assert_eq!(b.look(0), (0, wanted));
-    assert_eq!(b.release(0), answer(0, Response::Okay, 0, 0, 0));
+    assert_eq!(b.release(0), taken(Response::Okay, 0, 1));
     assert_eq!(b.decode(), 0);
 }
 
@@ -101,7 +101,7 @@ fn statuses_of_a_memory_read() {
         assert_eq!(b.status(0, status), 0);
         assert_eq!(b.decode(), bit(number));
         assert_eq!(b.look(0), (0, vec![0; 8]));
-        assert_eq!(b.release(0), answer(0, response, 0, 0, 0));
+        assert_eq!(b.release(0), taken(response, 0, 1));
         assert_eq!(b.bridge.free_tags().len(), 32);
     }
 }
@@ -224,9 +224,9 @@ fn link_drop_with_everything_open() {
         assert_eq!(b.look(slot), (0, vec![0; 8]));
         let at = 4096 * slot as usize;
         assert_eq!(b.store[at + 8..at + 4096], others[at + 8..at + 4096]);
-        assert_eq!(b.release(slot), answer(0, Response::Slverr, 0, 0, 0));
+        assert_eq!(b.release(slot), taken(Response::Slverr, 0, 1));
     }
-    assert_eq!(b.release(8), answer(0, Response::Slverr, 0, 0, 0));
+    assert_eq!(b.release(8), taken(Response::Slverr, 0, 1));
     assert_eq!(b.data(3, 8, 0, &run_of(1, 8)), 13);
     assert_eq!(b.local_read(0x018), 0x0001_0100);
 }
@@ -261,7 +261,7 @@ fn configuration_reads() {
         assert_eq!(b.complete(&bytes), refusal(0, Response::None));
         assert_eq!((b.decode(), b.tags()), (0, vec![]));
         assert_eq!(b.look(8), (0, vec![]));
-        assert_eq!(b.release(8), answer(0, response, 0, 0, word));
+        assert_eq!(b.release(8), taken(response, word, 1));
     }
 }
 
@@ -282,7 +282,7 @@ fn configuration_writes() {
         assert_eq!(b.data(0, 4, 0, &[0; 4]), 13); // data is not expected
         assert_eq!(b.complete(&data(0, 4, 0, &[0; 4])).number, 13);
         assert_eq!(b.status(0, status), 0);
-        assert_eq!(b.release(8), answer(0, response, 0, 0, 0));
+        assert_eq!(b.release(8), taken(response, 0, 1));
     }
 }
 
@@ -311,7 +311,7 @@ fn configuration_timeout() {
     b.ticks(1);
     assert_eq!(b.decode(), bit(8));
     assert_eq!(b.bridge.resting(), [0]);
-    assert_eq!(b.release(8), answer(0, Response::Slverr, 0, 0, 0));
+    assert_eq!(b.release(8), taken(Response::Slverr, 0, 1));
     assert_eq!(b.status(0, 1), 13);
 }
 

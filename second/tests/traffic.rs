@@ -75,12 +75,14 @@ fn example_log_of_a_list() {
 }
 
 #[test]
-fn both_ways_give_one_log() {
+fn all_versions_give_one_log() {
     for seed in 0..60 {
         let mut made = traffic(seed, 100);
         made.header.making = Making::Arrays;
         let arrays = own_log(&made.encode());
         made.header.making = Making::List(Window::default());
+        assert_eq!(own_log(&made.encode()), arrays, "seed {seed}");
+        made.header.making = Making::ListAndSession(Window::default(), 0);
         assert_eq!(own_log(&made.encode()), arrays, "seed {seed}");
     }
 }
@@ -159,7 +161,7 @@ fn damage_is_told_with_its_place() {
     let cases: [(usize, u8, &str); 16] = [
         (0, 0, "damaged header at 0"),
         (7, 0, "damaged header at 0"),
-        (7, 3, "damaged header at 0"),
+        (7, 4, "damaged header at 0"),
         (181, 1, "damaged header at 0"),
         (184, 0, "damaged event 0 at 184"),
         (184, 13, "damaged event 0 at 184"), // a message of 32,768 bytes

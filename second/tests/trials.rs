@@ -34,6 +34,43 @@ fn alike_begins_with_queued_messages() {
     assert!(sum.messages > 200 && sum.removed > 50, "{sum:?}");
 }
 
+/// Reading 76, and what is true beyond it: the counters of the pairs differ, and
+/// so do the numbers, by as much. Many answers are of an earlier life.
+#[test]
+fn session_numbers_of_the_trials() {
+    let mut sum = Figures::default();
+    for seed in 0..60 {
+        sum.add(&honest(seed, 500).unwrap());
+        sum.add(&alike(seed, 500).unwrap());
+    }
+    assert!(sum.alike_pairs_other > 50, "{sum:?}");
+    assert!(sum.alike_taken_other > 3000, "{sum:?}");
+    assert!(sum.taken > 1000 && sum.taken_later > 200, "{sum:?}");
+}
+
+/// Why alike compares answers apart from their session numbers: the counter is
+/// no register.
+#[test]
+fn equal_registers_and_other_numbers() {
+    let past = |lives: u32| {
+        let mut b = Bench::up();
+        for _ in 1..lives {
+            b.link(false);
+            b.link(true);
+        }
+        b.link(false);
+        b
+    };
+    let (mut one, mut other) = (past(1), past(3));
+    assert_eq!(one.bridge.registers(), other.bridge.registers());
+    for b in [&mut one, &mut other] {
+        assert_eq!(b.config_read(0x130).number, 0);
+    }
+    let (left, right) = (one.release(8), other.release(8));
+    assert_eq!((left.session, right.session), (1, 3));
+    assert_eq!((left.response, left.data), (right.response, right.data));
+}
+
 /// Why the equal registers of demand 3 take in the whole queue: equal words 138,
 /// 148 and 154 are not enough.
 #[test]

@@ -73,9 +73,7 @@ pub fn release_in(c: Core, slots: &mut [u32; SLOT_CELLS], store: &[u8], slot: u3
         let k = index(slot);
         let response = response_of(slots[CAUSE + k]);
         let session = slots[SESSION + k];
-        let figures = Figures {
-            session: session,
-        };
+        let figures = Figures { session: session };
         slots[STATE + k] = FREE;
         return Done {
             core: c,

@@ -166,12 +166,32 @@ table-agrees n w x y lx ly e = ext-getD 0 x y (lx ∙ sym ly) (λ i l. cells-agr
 module _ (s r : Fixed) (c d : Core) (m n t u x y : List ℕ) (e : bridgeOf s c m t x ≡ bridgeOf r d n u y) where
   pub same-tags : length t ≡ tagCells → length u ≡ tagCells → t ≡ u
   same-tags v w =
-      table-agrees tagCount 5 t u v w
-      (ap (λ (b : Bridge). b .sent) e, (ap (λ (b : Bridge). b .owner) e, (ap (λ (b : Bridge). b .place) e, (ap (λ (b : Bridge). b .next) e,
-      (ap (λ (b : Bridge). b .kind) e, tt)))))
+      table-agrees tagCount 5 t u v w (
+        ap (λ (b : Bridge). b .sent) e,
+        (
+          ap (λ (b : Bridge). b .owner) e,
+          (
+            ap (λ (b : Bridge). b .place) e,
+            (
+              ap (λ (b : Bridge). b .next) e,
+              (ap (λ (b : Bridge). b .kind) e, tt),
+            ),
+          ),
+        ),
+      )
 
   pub same-slots : length x ≡ slotCells → length y ≡ slotCells → x ≡ y
   same-slots v w =
-      table-agrees slotCount 6 x y v w
-      (ap (λ (b : Bridge). b .state) e, (ap (λ (b : Bridge). b .size) e, (ap (λ (b : Bridge). b .pieces) e, (ap (λ (b : Bridge). b .fault) e,
-      (ap (λ (b : Bridge). b .cause) e, (ap (λ (b : Bridge). b .session) e, tt))))))
+      table-agrees slotCount 6 x y v w (
+        ap (λ (b : Bridge). b .state) e,
+        (
+          ap (λ (b : Bridge). b .size) e,
+          (
+            ap (λ (b : Bridge). b .pieces) e,
+            (
+              ap (λ (b : Bridge). b .fault) e,
+              (ap (λ (b : Bridge). b .cause) e, (ap (λ (b : Bridge). b .session) e, tt)),
+            ),
+          ),
+        ),
+      )

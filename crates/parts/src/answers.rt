@@ -57,9 +57,7 @@ pub fn refusal_change(n: u32, c: Core) -> Core
 pub fn no_figures() -> Figures
     ensures { λ r. ⌜ r ≡ noFigures ⌝ }
 {
-    Figures {
-        session: 0,
-    }
+    Figures { session: 0 }
 }
 
 pub fn refusal_of(n: u32) -> Answer

@@ -41,9 +41,7 @@ pub fn with_link(c: Core, up: bool) -> Core
 pub fn figures_now(c: Core) -> Figures
     ensures { λ r. ⌜ ((cells : List ℕ) → r ≡ figuresNow (coreFrom c cells)) ⌝ }
 {
-    Figures {
-        session: c.session,
-    }
+    Figures { session: c.session }
 }
 
 pub fn next_session(x: u32) -> u32

@@ -4,6 +4,7 @@ use address::Windows;
 use bridge::Answered;
 use bridge::Bridge;
 use common::index;
+use traffic_file::header::WINDOW;
 use traffic_file::header::is_list;
 use traffic_text::input::long_at;
 use traffic_text::input::word_at;
@@ -50,7 +51,7 @@ fn settings_in(h: &[u8]) -> Settings {
     }
 }
 
-// The bridge from a list of the header's windows and one more record.
+// The bridge from a list of the header's windows and one more.
 fn made_from_list(h: &[u8], more: &[u8]) -> Answered {
     let seven = [
         window_in(h, 12),
@@ -78,10 +79,13 @@ fn made(h: &[u8], more: &[u8]) -> Answered {
     Bridge::new(settings_in(h))
 }
 
-// The bridge with its first tick value, and the answer of making it.
+// The bridge with its first tick value and its first session value, and the answer of making it. Where the version has no
+// first session value, zeros stand in its place.
 pub fn first_bridge(h: &[u8], more: &[u8]) -> Answered {
     let mut r = made(h, more);
     let ticks = word_at(h, 176);
     r.bridge.core.ticks = ticks;
+    let session = word_at(more, WINDOW);
+    r.bridge.core.session = session;
     r
 }

@@ -107,7 +107,7 @@ fn lend(h: &[u8], more: &[u8]) {
 
 fn main() {
     let mut h = [0u8; header::HEADER];
-    let mut more = [0u8; header::RECORD];
+    let mut more = [0u8; header::MORE];
     if header::read_header(&mut h, &mut more) {
         lend(&h, &more);
     }

@@ -45,7 +45,17 @@ fn put_answer(line: &mut [u8; ROOM], at: usize, a: Answer) -> usize {
     let responded = put_response(line, numbered, r);
     let slot = named(line, responded, b"slot", a.slot as u64);
     let sent = named(line, slot, b"sent", a.length as u64);
-    named_word(line, sent, b"data", a.word)
+    let data = named_word(line, sent, b"data", a.word);
+    let figures = a.figures;
+    put_session(line, data, figures.session)
+}
+
+// The session number, where it is not 0.
+fn put_session(line: &mut [u8; ROOM], at: usize, session: u32) -> usize {
+    if session == 0 {
+        return at;
+    }
+    named(line, at, b"session", session as u64)
 }
 
 fn put_registers(line: &mut [u8; ROOM], at: usize, words: [u32; 7]) -> usize {

@@ -1,21 +1,25 @@
 -- The header of a file (docs/TRAFFIC.md, 'Header').
-use Prim.Native.Nat.{ℕ}
+use Prim.Native.Nat.{ℕ, _+_}
 use mathlib.Core.List.{List}
 use mathlib.Core.Bool.{Bool, cond, _&&_, _||_}
 use lib.Dec.{leb, eqb}
 use Rattle.traffic_text.specs.Numbers.{wordAt}
 
--- version 2 asks for a list, version 1 for plain arrays
+-- versions 2 and 3 ask for a list, version 1 for plain arrays
 abbrev pub isList : List ℕ → Bool
-isList h = eqb (wordAt h 4) 2
+isList h = eqb (wordAt h 4) 2 || eqb (wordAt h 4) 3
+
+-- what follows the header's 184 bytes: a window, in version 3 the first session value too
+abbrev pub moreSize : List ℕ → ℕ
+moreSize h = cond (eqb (wordAt h 4) 2) 24 (cond (eqb (wordAt h 4) 3) 28 0)
 
 abbrev pub storeSize : List ℕ → ℕ
 storeSize h = wordAt h 180
 
 -- the magic, the version and the length of the store
 abbrev pub isRight : List ℕ → Bool
-isRight h = eqb (wordAt h 0) 0x41504254 && (eqb (wordAt h 4) 1 || eqb (wordAt h 4) 2) && leb (storeSize h) 40960
+isRight h = eqb (wordAt h 0) 0x41504254 && (eqb (wordAt h 4) 1 || isList h) && leb (storeSize h) 40960
 
 -- where the first record begins
 abbrev pub startOf : List ℕ → ℕ
-startOf h = cond (isList h) 208 184
+startOf h = 184 + moreSize h

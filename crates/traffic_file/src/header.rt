@@ -1,4 +1,4 @@
-// The header of a file. In version 2 one more record follows it.
+// The header of a file. In version 2 one more window follows it, in version 3 a window and a first session value.
 use crate::reading::Place;
 use crate::reading::first_place;
 use crate::record;
@@ -7,18 +7,35 @@ use streams::Fetched;
 use traffic_text::input::fetch;
 use traffic_text::input::word_at;
 ghost use mathlib.Core.Path.{_≡_};
-ghost use Rattle.traffic_file.specs.Header.{isList, storeSize, isRight, startOf};
+ghost use Rattle.traffic_file.specs.Header.{isList, moreSize, storeSize, isRight, startOf};
 
-// The bytes of the header, and of the record after it.
+// The bytes of the header, of the window after it, and of all that may follow it.
 pub const HEADER: usize = 184;
 
-pub const RECORD: usize = 24;
+pub const WINDOW: usize = 24;
 
-// Version 2 asks for a list, version 1 for plain arrays.
+pub const MORE: usize = 28;
+
+// Versions 2 and 3 ask for a list, version 1 for plain arrays.
 pub fn is_list(h: &[u8]) -> bool
     ensures { λ r. ⌜ r ≡ isList (now (h .entry)) ⌝ }
 {
-    word_at(h, 4) == 2
+    let version = word_at(h, 4);
+    (version == 2) | (version == 3)
+}
+
+// The bytes that follow the header.
+fn more_size(h: &[u8]) -> usize
+    ensures { λ r. ⌜ r ≡ moreSize (now (h .entry)) ⌝ }
+{
+    let version = word_at(h, 4);
+    if version == 2 {
+        return WINDOW;
+    }
+    if version == 3 {
+        return MORE;
+    }
+    0
 }
 
 // The length of the store.
@@ -32,8 +49,12 @@ pub fn store_size(h: &[u8]) -> usize
 pub fn start(h: &[u8]) -> Place
     ensures { λ r. ⌜ (r .events ≡ 0) × (r .at ≡ startOf (now (h .entry))) × (r .ticks ≡ 0) ⌝ }
 {
-    if is_list(h) {
+    let version = word_at(h, 4);
+    if version == 2 {
         return first_place(208);
+    }
+    if version == 3 {
+        return first_place(212);
     }
     first_place(184)
 }
@@ -42,9 +63,8 @@ pub fn start(h: &[u8]) -> Place
 fn is_right(h: &[u8]) -> bool
     ensures { λ r. ⌜ r ≡ isRight (now (h .entry)) ⌝ }
 {
-    let version = word_at(h, 4);
     (word_at(h, 0) == 0x41504254)
-        & ((version == 1) | (version == 2))
+        & ((word_at(h, 4) == 1) | is_list(h))
         & (store_size(h) <= record::STORE)
 }
 
@@ -63,15 +83,15 @@ fn has_come(part: Fetched) -> bool {
     }
 }
 
-// The record after the header of a list; whether it came where it should.
+// What follows the header; whether it came where it should.
 fn read_more(h: &[u8], more: &mut [u8]) -> bool {
     if is_list(h) {
-        return has_come(fetch(more, RECORD));
+        return has_come(fetch(more, more_size(h)));
     }
     true
 }
 
-// Reads the header and the record after it; whether they came and are right.
+// Reads the header and what follows it; whether they came and are right.
 pub fn read_header(h: &mut [u8], more: &mut [u8]) -> bool {
     if !has_come(fetch(h, HEADER)) {
         return false;

@@ -3,7 +3,7 @@
 //! another player; it fails with the first difference and keeps the file. Exit
 //! status: 0 equal, 1 different, 2 trouble, such as a player whose log is not
 //! whole.
-use second::generate::{damage, edges, traffic, DEFAULT_EVENTS};
+use second::generate::{damage, edges, session_edges, traffic, DEFAULT_EVENTS};
 use second::run::{log_of, own_log};
 use second::say;
 use second::say::fail;
@@ -25,7 +25,7 @@ fn main() {
         let damaged = damage(&bytes, seed);
         lines += compare(player, &format!("seed-{seed}-damaged"), &damaged);
     }
-    for (name, bytes) in edges() {
+    for (name, bytes) in edges().into_iter().chain(session_edges()) {
         compare(player, name, &bytes);
     }
     say!("{} seeds, {lines} lines, 0 differences", to - from + 1);

@@ -1,6 +1,6 @@
 //! Completions (01, "Completions").
 
-use super::{Bridge, Cause, ConfigSlot, Owner, Piece, SLOT_BYTES, STORE_BYTES};
+use super::{Bridge, Cause, Owner, Piece, SLOT_BYTES, STORE_BYTES};
 use super::{BIT_CA, BIT_POISON, BIT_UNEXPECTED, BIT_UR};
 use crate::answer::{Answer, Response};
 use crate::header::{read_completion, Completion};
@@ -141,7 +141,7 @@ impl Bridge {
             _ if write => (Response::Slverr, 0),
             _ => (Response::Okay, 0xFFFF_FFFF),
         };
-        self.config_slot = ConfigSlot::Finished(response, data);
+        self.config_slot.finish(response, data);
     }
 }
 

@@ -117,9 +117,10 @@ impl Bridge {
     }
 
     fn open_config_piece(&mut self, write: bool, tag: u32) {
+        let session = self.session;
         let (owner, slot) = match write {
-            true => (Owner::ConfigWrite, ConfigSlot::OpenWrite),
-            false => (Owner::ConfigRead, ConfigSlot::OpenRead),
+            true => (Owner::ConfigWrite, ConfigSlot::OpenWrite { session }),
+            false => (Owner::ConfigRead, ConfigSlot::OpenRead { session }),
         };
         self.config_slot = slot;
         self.pieces.push(Piece {
@@ -134,7 +135,8 @@ impl Bridge {
     }
 
     /// "A local access finishes at once in the configuration slot, as OKAY,
-    /// with nothing sent."
+    /// with nothing sent." With the link down its session is that of the life
+    /// that ended, or before the first one the counter's first value.
     fn local_access(&mut self, access: &Access) -> Answer {
         let offset = (access.offset & 0xFFC) as u32;
         let data = if access.write {
@@ -143,7 +145,11 @@ impl Bridge {
         } else {
             self.local_word(offset)
         };
-        self.config_slot = ConfigSlot::Finished(Response::Okay, data);
+        self.config_slot = ConfigSlot::Finished {
+            response: Response::Okay,
+            data,
+            session: self.session,
+        };
         config_accepted()
     }
 

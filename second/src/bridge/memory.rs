@@ -13,7 +13,7 @@ impl Bridge {
             Ok(found) => found,
             Err(number) => return self.refuse_memory(number),
         };
-        if self.config_slot == ConfigSlot::OpenRead {
+        if matches!(self.config_slot, ConfigSlot::OpenRead { .. }) {
             return Answer::refused(5);
         }
         let Some(&slot) = self.free_slots().first() else {
@@ -28,6 +28,7 @@ impl Bridge {
             length,
             failures: Vec::new(),
             finished: None,
+            session: self.session,
         });
         let mut sent = Vec::new();
         for (rank, stretch) in stretches.iter().enumerate() {
@@ -36,11 +37,9 @@ impl Bridge {
         }
         area[..sent.len()].copy_from_slice(&sent);
         Answer {
-            number: 0,
-            response: Response::None,
             slot,
             sent: sent.len() as u32,
-            data: 0,
+            ..Answer::accepted()
         }
     }
 
@@ -58,11 +57,9 @@ impl Bridge {
         }
         area[..sent.len()].copy_from_slice(&sent);
         Answer {
-            number: 0,
             response: Response::Okay,
-            slot: 0,
             sent: sent.len() as u32,
-            data: 0,
+            ..Answer::accepted()
         }
     }
 

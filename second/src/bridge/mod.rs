@@ -12,6 +12,7 @@ pub use config::Access;
 pub use errors::{ErrorQueue, QUEUE_DEPTH};
 pub use words::*;
 
+use crate::answer::Response;
 use crate::settings::{PcieAddress, Settings, Window};
 
 /// "32 free tags, 8 free read slots and one free configuration slot"
@@ -65,16 +66,52 @@ pub struct Read {
     pub length: u32,
     /// The first cause of each failed piece, with the piece's rank.
     pub failures: Vec<(u32, Cause)>,
-    pub finished: Option<crate::answer::Response>,
+    pub finished: Option<Response>,
+    /// The session counter when it was accepted.
+    pub session: u32,
 }
 
-/// What the configuration slot holds.
+/// What the configuration slot holds. `session` is the session counter when the
+/// access was accepted.
 #[derive(Clone, Copy, Debug, PartialEq, Eq)]
 pub enum ConfigSlot {
     Free,
-    OpenRead,
-    OpenWrite,
-    Finished(crate::answer::Response, u32),
+    OpenRead {
+        session: u32,
+    },
+    OpenWrite {
+        session: u32,
+    },
+    Finished {
+        response: Response,
+        data: u32,
+        session: u32,
+    },
+}
+
+impl ConfigSlot {
+    pub fn is_open(&self) -> bool {
+        matches!(
+            self,
+            ConfigSlot::OpenRead { .. } | ConfigSlot::OpenWrite { .. }
+        )
+    }
+
+    pub fn is_finished(&self) -> bool {
+        matches!(self, ConfigSlot::Finished { .. })
+    }
+
+    /// An open access gets its answer and keeps its session number; what is not
+    /// open stays as it is.
+    fn finish(&mut self, response: Response, data: u32) {
+        if let ConfigSlot::OpenRead { session } | ConfigSlot::OpenWrite { session } = *self {
+            *self = ConfigSlot::Finished {
+                response,
+                data,
+                session,
+            };
+        }
+    }
 }
 
 #[derive(Clone, Debug, PartialEq, Eq)]
@@ -89,6 +126,8 @@ pub struct Bridge {
     link_up: bool,
     errors: ErrorQueue,
     now: u32,
+    /// "counting how often a down link went up", mod 2^32.
+    session: u32,
     pieces: Vec<Piece>,
     reads: Vec<Read>,
     config_slot: ConfigSlot,
@@ -138,6 +177,7 @@ impl Bridge {
             link_up: false,
             errors: ErrorQueue::default(),
             now: 0,
+            session: 0,
             pieces: Vec::new(),
             reads: Vec::new(),
             config_slot: ConfigSlot::Free,
@@ -148,6 +188,11 @@ impl Bridge {
     /// For traffic that starts near the counter's last value.
     pub fn set_counter(&mut self, value: u32) {
         self.now = value;
+    }
+
+    /// For traffic in which this counter starts again at zero.
+    pub fn set_session(&mut self, value: u32) {
+        self.session = value;
     }
 
     /// Words 018, 134, 138, 13C, 144, 148 and 154.
@@ -173,6 +218,11 @@ impl Bridge {
 
     pub fn counter(&self) -> u32 {
         self.now
+    }
+
+    /// The number of the link's present life, or of its last one. No register.
+    pub fn session(&self) -> u32 {
+        self.session
     }
 
     pub fn link_is_up(&self) -> bool {

@@ -8,6 +8,7 @@ struct Finished {
     response: Response,
     data: u32,
     length: usize,
+    session: u32,
 }
 
 impl Bridge {
@@ -25,18 +26,18 @@ impl Bridge {
         }
     }
 
-    /// "The release gives number, response and data word and frees the slot."
+    /// "The release gives number, response and data word and frees the slot." It
+    /// alone gives the session number too (02, request A2).
     pub fn release(&mut self, slot: u32, store: &[u8]) -> Answer {
         match self.finished_in(slot, store.len()) {
             Err(number) => Answer::refused(number),
             Ok(found) => {
                 self.free_slot(slot);
                 Answer {
-                    number: 0,
                     response: found.response,
-                    slot: 0,
-                    sent: 0,
                     data: found.data,
+                    session: found.session,
+                    ..Answer::accepted()
                 }
             }
         }
@@ -56,10 +57,15 @@ impl Bridge {
 
     fn finished_config(&self) -> Option<Finished> {
         match self.config_slot {
-            ConfigSlot::Finished(response, data) => Some(Finished {
+            ConfigSlot::Finished {
+                response,
+                data,
+                session,
+            } => Some(Finished {
                 response,
                 data,
                 length: 0,
+                session,
             }),
             _ => None,
         }
@@ -72,6 +78,7 @@ impl Bridge {
             response: read.finished?,
             data: 0,
             length: read.length as usize,
+            session: read.session,
         })
     }
 

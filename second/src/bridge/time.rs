@@ -1,7 +1,7 @@
 //! Ticks and the link (01, "Ticks and the link").
 
 use super::complete::clear_slot;
-use super::{Bridge, Cause, ConfigSlot, Owner, STORE_BYTES};
+use super::{Bridge, Cause, Owner, STORE_BYTES};
 use super::{BIT_CONFIG_TIMEOUT, BIT_LINK_DOWN, BIT_TIMEOUT};
 use crate::answer::{Answer, Response};
 
@@ -38,18 +38,22 @@ impl Bridge {
             }
             Owner::ConfigRead | Owner::ConfigWrite => {
                 self.set_bit(BIT_CONFIG_TIMEOUT);
-                self.config_slot = ConfigSlot::Finished(Response::Slverr, 0);
+                self.config_slot.finish(Response::Slverr, 0);
             }
         }
     }
 
-    /// "Going up, or repeating the present link state, changes nothing else."
+    /// "Going up, or repeating the present link state, changes nothing else." But
+    /// a down link that goes up is counted (02, request A2).
     pub fn link(&mut self, up: bool, store: &mut [u8]) -> Answer {
         if store.len() < STORE_BYTES {
             return Answer::refused(8);
         }
-        if self.link_up && !up {
-            self.drop_link(store);
+        match (self.link_up, up) {
+            (true, false) => self.drop_link(store),
+            // "starting again at zero after its last value"
+            (false, true) => self.session = self.session.wrapping_add(1),
+            _ => {}
         }
         self.link_up = up;
         Answer::accepted()
@@ -65,11 +69,6 @@ impl Bridge {
             read.finished = Some(Response::Slverr);
             clear_slot(store, read.slot, read.length);
         }
-        if matches!(
-            self.config_slot,
-            ConfigSlot::OpenRead | ConfigSlot::OpenWrite
-        ) {
-            self.config_slot = ConfigSlot::Finished(Response::Slverr, 0);
-        }
+        self.config_slot.finish(Response::Slverr, 0);
     }
 }

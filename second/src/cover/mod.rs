@@ -5,6 +5,7 @@ mod classify;
 mod errors;
 mod observe;
 mod points;
+mod sessions;
 
 use crate::generate;
 use crate::traffic::{Machine, Traffic};
@@ -48,6 +49,7 @@ struct Memory {
     kept: bool,
     /// How many messages were removed.
     removed: usize,
+    lives: sessions::Lives,
 }
 
 impl Coverage {
@@ -65,7 +67,11 @@ impl Coverage {
         self.number("new", machine.number);
         self.settings(&traffic.header.settings);
         self.making(&traffic.header, machine.number);
-        let mut memory = Memory::default();
+        self.first_session(&traffic.header, machine.number);
+        let mut memory = Memory {
+            lives: sessions::Lives::new(&traffic.header, machine.number),
+            ..Memory::default()
+        };
         for event in &traffic.events {
             let before = machine.bridge.clone();
             let outcome = machine.play(event);

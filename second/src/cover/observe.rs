@@ -3,7 +3,7 @@
 use super::points::{local_words, BITS};
 use super::{classify, Coverage, Memory};
 use crate::answer::{Answer, Response};
-use crate::bridge::{Access, Bridge, Cause, ConfigSlot, Owner, Piece, CONFIG_SLOT};
+use crate::bridge::{Access, Bridge, Cause, Owner, Piece, CONFIG_SLOT};
 use crate::burst::{cut, Burst};
 use crate::header::{read_completion, Completion};
 use crate::settings::{PcieAddress, Settings};
@@ -81,6 +81,7 @@ impl Coverage {
             }
             _ => self.header_call(event, outcome),
         }
+        self.session(before, event, outcome, &mut memory.lives);
         self.changes(before, event, after);
         self.error_line(after);
         self.tags(before, after, memory);
@@ -233,8 +234,7 @@ impl Coverage {
     fn drop_link(&mut self, before: &Bridge) {
         let open_reads = before.reads().iter().filter(|r| r.finished.is_none());
         let config = before.config_slot();
-        let config_open = matches!(config, ConfigSlot::OpenRead | ConfigSlot::OpenWrite);
-        let all = open_reads.clone().count() == 8 && config_open;
+        let all = open_reads.clone().count() == 8 && config.is_open();
         self.hit_if(all, "link: drop with everything open");
         let none = before.pieces().is_empty();
         self.hit_if(none, "link: drop with nothing open");
@@ -244,7 +244,7 @@ impl Coverage {
         self.hit_if(rests, "link: drop with resting tags");
         let kept = before.reads().iter().any(|r| r.finished.is_some());
         self.hit_if(kept, "link: drop keeps a finished answer");
-        let kept = matches!(config, ConfigSlot::Finished(..));
+        let kept = config.is_finished();
         self.hit_if(kept, "link: drop keeps a finished configuration answer");
         let failed = open_reads.clone().any(|r| !r.failures.is_empty());
         self.hit_if(failed, "link: drop with a failed piece");

@@ -1,6 +1,6 @@
 //! The points that a run must reach.
 
-use super::errors;
+use super::{errors, sessions};
 use crate::bridge::{REGISTERS, WORD_INFO};
 
 const PLAIN: &str = "
@@ -193,5 +193,6 @@ pub fn required() -> Vec<String> {
         add(format!("config: routed, {bits} bus bits"));
     }
     list.extend(errors::required());
+    list.extend(sessions::required());
     list
 }

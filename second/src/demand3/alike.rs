@@ -1,6 +1,8 @@
 //! Two histories that end alike are answered alike.
 
+use super::lives::Lives;
 use super::{Counterexample, Figures};
+use crate::answer::Answer;
 use crate::bridge::{Bridge, CONFIG_SLOT, OVERFLOW, QUEUE_DEPTH};
 use crate::bridge::{WORD_BUSES, WORD_DECODE, WORD_DISABLE, WORD_MASK, WORD_STATUS};
 use crate::generate::messages::{sound, CODES};
@@ -71,6 +73,8 @@ fn history(settings: &Settings, random: &mut Random) -> Generator {
     };
     let mut machine = Machine::new(&header);
     machine.store = random.bytes(machine.store.len());
+    // Each history has its own, since no register shows it.
+    machine.bridge.set_session(random.word());
     let mut generator = Generator::new(machine, Random::new(random.long()));
     generator.opening();
     let length = random.between(0, 300) as usize;
@@ -141,6 +145,9 @@ fn later(
     let queued = shadow.bridge.errors().entries().len() as u64;
     figures.alike_pairs += 1;
     figures.alike_pairs_queued += u64::from(queued > 1);
+    let sessions = Sessions::new(&shadow.bridge, &other.machine.bridge);
+    figures.alike_pairs_other += u64::from(sessions.apart != 0);
+    let mut lives = [&shadow, &other.machine].map(|m| Lives::new(m.bridge.session()));
     one.opening();
     while one.events.len() < from + events {
         one.step();
@@ -150,6 +157,9 @@ fn later(
         let left = shadow.play(&lent(event, &shadow));
         let right = other.machine.play(&lent(event, &other.machine));
         compare(event, (&left, &shadow), (&right, &other.machine))?;
+        lives[0].note(event, &left)?;
+        lives[1].note(event, &right)?;
+        sessions.compare(event, &left, &right, figures)?;
         figures.alike_events += 1;
         let read = matches!(event, Event::Read { .. }) && left.number() == 0;
         figures.alike_reads += u64::from(read);
@@ -173,6 +183,55 @@ fn lent(event: &Event, machine: &Machine) -> Event {
     event
 }
 
+/// What is true of the session numbers beyond demand 3: those of taken answers
+/// are always as far apart, mod 2^32, as the counters were at the start.
+struct Sessions {
+    apart: u32,
+}
+
+impl Sessions {
+    fn new(one: &Bridge, other: &Bridge) -> Sessions {
+        Sessions {
+            apart: one.session().wrapping_sub(other.session()),
+        }
+    }
+
+    fn compare(
+        &self,
+        event: &Event,
+        left: &Outcome,
+        right: &Outcome,
+        figures: &mut Figures,
+    ) -> Result<(), String> {
+        let (Event::Release { .. }, Outcome::Call(one), Outcome::Call(other)) =
+            (event, left, right)
+        else {
+            return Ok(());
+        };
+        if one.number != 0 {
+            return Ok(());
+        }
+        figures.alike_taken += 1;
+        figures.alike_taken_other += u64::from(one.session != other.session);
+        let apart = one.session.wrapping_sub(other.session);
+        match apart == self.apart {
+            true => Ok(()),
+            false => Err(format!("sessions apart by {apart}, not {}", self.apart)),
+        }
+    }
+}
+
+/// 02: "compares answers apart from their session numbers".
+fn without_session(outcome: &Outcome) -> Outcome {
+    match outcome {
+        Outcome::Call(answer) => Outcome::Call(Answer {
+            session: 0,
+            ..*answer
+        }),
+        other => other.clone(),
+    }
+}
+
 /// "the same number, response, slot, bytes sent, data word, look's bytes and any
 /// further answer, and equal registers after"
 fn compare(
@@ -184,7 +243,7 @@ fn compare(
         Outcome::Call(answer) => machine.area[..answer.sent as usize].to_vec(),
         _ => Vec::new(),
     };
-    let same = left.0 == right.0
+    let same = without_session(left.0) == without_session(right.0)
         && sent(left.0, left.1) == sent(right.0, right.1)
         && left.1.bridge.line() == right.1.bridge.line()
         && equal_registers(&left.1.bridge, &right.1.bridge);

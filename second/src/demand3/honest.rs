@@ -3,9 +3,10 @@
 
 use super::claims::{Asked, Claims};
 use super::lists::{list_for, Item};
+use super::lives::Lives;
 use super::{Counterexample, Figures};
 use crate::answer::Answer;
-use crate::bridge::{Bridge, ConfigSlot, CONFIG_SLOT};
+use crate::bridge::{Bridge, CONFIG_SLOT};
 use crate::burst::Burst;
 use crate::generate::far::{headers, Kind, Owed};
 use crate::generate::{bursts, configs, header_damage, lawful_settings, messages, Random};
@@ -29,6 +30,7 @@ pub struct World {
     pub machine: Machine,
     pub sent: Vec<Sent>,
     claims: Claims,
+    lives: Lives,
     events: Vec<Event>,
     figures: Figures,
     used_tags: BTreeSet<u32>,
@@ -54,11 +56,16 @@ pub fn honest(seed: u64, events: usize) -> Result<Figures, Counterexample> {
         settings,
     };
     let setting = format!("{header:x?}");
+    let mut machine = Machine::new(&header);
+    // So that the session counter's end comes often.
+    let first = u32::MAX - random.between(0, 7);
+    machine.bridge.set_session(first);
     let mut world = World {
         random,
-        machine: Machine::new(&header),
+        machine,
         sent: Vec::new(),
         claims: Claims::default(),
+        lives: Lives::new(first),
         events: Vec::new(),
         figures: Figures::default(),
         used_tags: BTreeSet::new(),
@@ -66,7 +73,11 @@ pub fn honest(seed: u64, events: usize) -> Result<Figures, Counterexample> {
         habit: None,
     };
     let result = world.run(events);
-    let figures = world.figures;
+    let figures = Figures {
+        taken: world.lives.taken,
+        taken_later: world.lives.taken_later,
+        ..world.figures
+    };
     result.map(|()| figures).map_err(|claim| Counterexample {
         claim,
         setting,
@@ -123,6 +134,7 @@ impl World {
         self.figures.events += 1;
         self.events.push(event);
         let event = self.events.last().expect("just added").clone();
+        self.lives.note(&event, &outcome)?;
         match outcome {
             Outcome::Call(answer) if answer.number == 0 => self.note(&event, &answer, &before)?,
             _ => {}
@@ -302,14 +314,24 @@ impl World {
     }
 
     fn link(&mut self) -> Result<(), String> {
-        let store = 32_768;
         if self.random.chance(60) {
-            self.play(Event::Link { store, up: false })?;
+            self.link_to(false)?;
             for _ in 0..self.random.between(0, 6) {
-                self.take()?;
+                match self.random.chance(25) {
+                    true => self.local()?,
+                    false => self.take()?,
+                }
             }
         }
-        self.play(Event::Link { store, up: true }).map(drop)
+        self.link_to(true)
+    }
+
+    /// Now and then refused first.
+    fn link_to(&mut self, up: bool) -> Result<(), String> {
+        if self.random.chance(15) {
+            self.play(Event::Link { store: 32_767, up })?;
+        }
+        self.play(Event::Link { store: 32_768, up }).map(drop)
     }
 
     fn release(&mut self, slot: u32) -> Result<(), String> {
@@ -317,18 +339,23 @@ impl World {
         self.play(Event::Release { store, slot }).map(drop)
     }
 
-    /// Releases something finished; now and then a slot that is not.
+    /// Releases something finished, now and then refused first; now and then a
+    /// slot in which nothing is finished.
     fn take(&mut self) -> Result<(), String> {
         let bridge = self.bridge();
         let reads = bridge.reads().iter().filter(|r| r.finished.is_some());
         let mut slots: Vec<u32> = reads.map(|r| r.slot).collect();
-        if matches!(bridge.config_slot(), ConfigSlot::Finished(..)) {
+        if bridge.config_slot().is_finished() {
             slots.push(CONFIG_SLOT);
         }
         if slots.is_empty() || self.random.chance(5) {
             slots.push(self.random.between(0, 9));
         }
         let slot = self.random.pick(&slots);
+        if self.random.chance(5) {
+            let store = 32_767;
+            self.play(Event::Release { store, slot })?;
+        }
         self.release(slot)
     }
 

@@ -1,10 +1,12 @@
 //! Demand 3 by trial: an honest far side, and the three claims checked on many
-//! seeds (bytes, deadline with its OKAY half, alike).
+//! seeds (bytes, deadline with its OKAY half, alike). Beside them: session numbers
+//! are those of the lives in which the accesses were accepted.
 
 mod alike;
 mod claims;
 mod honest;
 mod lists;
+mod lives;
 
 pub use alike::alike;
 pub use honest::honest;
@@ -31,10 +33,18 @@ pub struct Figures {
     pub reused_tags: u64,
     pub messages: u64,
     pub removed: u64,
+    /// Answers taken, whose session numbers were checked.
+    pub taken: u64,
+    pub taken_later: u64,
     pub alike_pairs: u64,
     /// Pairs that begin with two messages or more, which word 154 does not show.
     pub alike_pairs_queued: u64,
+    /// Pairs that begin with other session counters.
+    pub alike_pairs_other: u64,
     pub alike_removed: u64,
+    /// Answers taken from both, and those with other session numbers.
+    pub alike_taken: u64,
+    pub alike_taken_other: u64,
     pub alike_events: u64,
     pub alike_reads: u64,
 }
@@ -56,15 +66,20 @@ impl Figures {
         self.reused_tags += other.reused_tags;
         self.messages += other.messages;
         self.removed += other.removed;
+        self.taken += other.taken;
+        self.taken_later += other.taken_later;
         self.alike_pairs += other.alike_pairs;
         self.alike_pairs_queued += other.alike_pairs_queued;
+        self.alike_pairs_other += other.alike_pairs_other;
         self.alike_removed += other.alike_removed;
+        self.alike_taken += other.alike_taken;
+        self.alike_taken_other += other.alike_taken_other;
         self.alike_events += other.alike_events;
         self.alike_reads += other.alike_reads;
     }
 
     /// Every figure with its name.
-    pub fn list(&self) -> [(&'static str, u64); 20] {
+    pub fn list(&self) -> [(&'static str, u64); 25] {
         [
             ("events with an honest far side", self.events),
             ("accepted memory reads", self.reads),
@@ -81,11 +96,16 @@ impl Figures {
             ("tags used again", self.reused_tags),
             ("error messages accepted", self.messages),
             ("of them removed again", self.removed),
+            ("answers taken, session numbers checked", self.taken),
+            ("of them in a later life", self.taken_later),
             ("pairs of bridges for alike", self.alike_pairs),
             ("of them with two messages or more", self.alike_pairs_queued),
+            ("pairs with other session counters", self.alike_pairs_other),
             ("events compared for alike", self.alike_events),
             ("reads accepted among them", self.alike_reads),
             ("messages removed among them", self.alike_removed),
+            ("answers taken among them", self.alike_taken),
+            ("of them with other session numbers", self.alike_taken_other),
         ]
     }
 }

@@ -7,12 +7,14 @@ mod damage;
 mod edges;
 pub mod far;
 mod headers;
+mod lives;
 mod locals;
 pub(crate) mod messages;
 mod odd;
 mod queue;
 mod random;
 mod scenes;
+mod session_edges;
 mod settings;
 mod takes;
 
@@ -20,6 +22,7 @@ pub use damage::damage;
 pub use edges::edges;
 pub(crate) use headers::damage_completion as header_damage;
 pub use random::Random;
+pub use session_edges::session_edges;
 pub use settings::{lawful as lawful_settings, WAYS};
 
 use crate::answer::Answer;
@@ -52,10 +55,10 @@ pub fn traffic(seed: u64, events: usize) -> Traffic {
 /// routed, local, answer, odd answer, loss, tick, link, take, odd take, header,
 /// message, scene.
 const MOODS: [[u32; 14]; 5] = [
-    [14, 8, 9, 6, 44, 3, 1, 4, 1, 14, 2, 4, 2, 4],   // calm
-    [40, 4, 10, 2, 14, 3, 1, 2, 1, 4, 3, 2, 1, 3],   // filling up
-    [4, 2, 3, 2, 60, 2, 1, 2, 1, 30, 2, 2, 1, 3],    // emptying
-    [16, 4, 9, 4, 20, 18, 6, 10, 3, 12, 4, 2, 4, 5], // stormy
+    [14, 8, 9, 6, 44, 3, 1, 4, 1, 14, 2, 4, 2, 6],   // calm
+    [40, 4, 10, 2, 14, 3, 1, 2, 1, 4, 3, 2, 1, 4],   // filling up
+    [4, 2, 3, 2, 60, 2, 1, 2, 1, 30, 2, 2, 1, 4],    // emptying
+    [16, 4, 9, 4, 20, 18, 6, 10, 3, 12, 4, 2, 4, 6], // stormy
     [3, 3, 2, 2, 8, 2, 1, 2, 1, 4, 2, 50, 5, 1],     // headers
 ];
 
@@ -90,6 +93,9 @@ impl Generator {
     pub fn opening(&mut self) {
         if self.random.chance(80) {
             self.set_buses();
+        }
+        if self.random.chance(30) {
+            self.local_before_the_first_life();
         }
         if self.random.chance(90) {
             self.link(true);

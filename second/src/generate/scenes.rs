@@ -9,7 +9,7 @@ impl Generator {
         if !self.machine.bridge.link_is_up() {
             self.link(true);
         }
-        match self.random.below(14) {
+        match self.random.below(17) {
             0 => self.everything_open_then_drop(),
             1 => self.whole_page(),
             2 => self.poison_then_failure(),
@@ -23,11 +23,14 @@ impl Generator {
             10 => self.queue_life(),
             11 => self.broken_messages(),
             12 => self.error_line(),
+            13 => self.several_lives(),
+            14 => self.waiting_answer(),
+            15 => self.local_while_down(),
             _ => self.set_buses(),
         }
     }
 
-    fn read_word(&mut self) {
+    pub(super) fn read_word(&mut self) {
         let settings = self.machine.bridge.settings();
         let burst = bursts::one_word(settings, &mut self.random);
         self.read(burst);

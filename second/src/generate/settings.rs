@@ -2,10 +2,12 @@
 
 use super::Random;
 use crate::settings::{AxiAddress, Settings, Window};
-use crate::traffic::{Header, Making, STORE_LIMIT};
+use crate::traffic::{Header, Making, STORE_LIMIT, VERSION_SESSION};
 
 /// The ways in which `broken` breaks settings.
 pub const WAYS: u64 = 19;
+
+const VERSIONS: u64 = VERSION_SESSION as u64;
 
 pub fn header(seed: u64, random: &mut Random) -> Header {
     let mut settings = lawful(seed, random);
@@ -21,26 +23,38 @@ pub fn header(seed: u64, random: &mut Random) -> Header {
     }
 }
 
-/// From arrays or from a list, each half of the time; one seed in 32 has a
-/// count that alone breaks its rule. Its numbers are its own, so that the
-/// events of a seed do not hang on it.
+/// Each version a third of the time; one seed in 32 has a count that alone
+/// breaks its rule. Its numbers are its own, so that the events of a seed do not
+/// hang on it.
 fn making(seed: u64, settings: &mut Settings) -> Making {
     let random = &mut Random::new(seed ^ 0x0115_7000);
-    let mut list = random.chance(50);
+    let mut version = random.below(VERSIONS);
     let mut seventh = Window {
         base: random.long(),
         size: random.long(),
         target: random.long(),
     };
     if seed % 32 == 7 {
-        list = (seed / 32).is_multiple_of(2);
+        // Each version with none and with seven, in turn.
+        let turn = seed / 32;
+        version = turn % VERSIONS;
         seventh = seven(settings, random);
-        // None and seven in turn.
-        settings.count = seed as u32 / 64 % 2 * 7;
+        settings.count = (turn / VERSIONS % 2) as u32 * 7;
     }
-    match list {
-        true => Making::List(seventh),
-        false => Making::Arrays,
+    match version {
+        0 => Making::Arrays,
+        1 => Making::List(seventh),
+        _ => Making::ListAndSession(seventh, first_session(random)),
+    }
+}
+
+/// Zero, small, anything, or so that a few lives reach the counter's end.
+fn first_session(random: &mut Random) -> u32 {
+    match random.below(6) {
+        0 => 0,
+        1 => random.between(1, 9),
+        2 => random.word(),
+        _ => u32::MAX - random.pick(&[0, 0, 1, 2, 3, 5]),
     }
 }
 

@@ -1,16 +1,16 @@
 //! Looks and releases.
 
 use super::Generator;
-use crate::bridge::{ConfigSlot, CONFIG_SLOT};
+use crate::bridge::CONFIG_SLOT;
 use crate::traffic::Event;
 
 impl Generator {
     /// The slots in which something is finished.
-    fn finished_slots(&self) -> Vec<u32> {
+    pub(super) fn finished_slots(&self) -> Vec<u32> {
         let bridge = &self.machine.bridge;
         let reads = bridge.reads().iter().filter(|r| r.finished.is_some());
         let mut list: Vec<u32> = reads.map(|r| r.slot).collect();
-        if matches!(bridge.config_slot(), ConfigSlot::Finished(..)) {
+        if bridge.config_slot().is_finished() {
             list.push(CONFIG_SLOT);
         }
         list

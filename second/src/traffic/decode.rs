@@ -89,12 +89,13 @@ impl<'a> Decoder<'a> {
         let settings = self.settings()?;
         let counter = self.word()?;
         let store = self.word()?;
-        let known = version == VERSION_ARRAYS || version == VERSION_LIST;
+        let known = (VERSION_ARRAYS..=VERSION_SESSION).contains(&version);
         judge(magic == MAGIC && known && store <= STORE_LIMIT)?;
         self.store = store;
         let making = match version {
+            VERSION_ARRAYS => Making::Arrays,
             VERSION_LIST => Making::List(self.window()?),
-            _ => Making::Arrays,
+            _ => Making::ListAndSession(self.window()?, self.word()?),
         };
         Ok(Header {
             making,

@@ -57,19 +57,18 @@ pub fn traffic(traffic: &Traffic) -> Vec<u8> {
 fn header(sink: &mut Sink, header: &Header) {
     let settings = &header.settings;
     sink.0.extend(MAGIC);
-    let version = match header.making {
-        Making::Arrays => VERSION_ARRAYS,
-        Making::List(_) => VERSION_LIST,
-    };
-    sink.words(&[version, settings.count]);
+    sink.words(&[header.version(), settings.count]);
     for window in &settings.windows {
         sink.window(window);
     }
     sink.words(&[settings.bus_bits, settings.read_limit]);
     sink.words(&[settings.write_limit, settings.time_limit]);
     sink.words(&[settings.requester, header.counter, header.store]);
-    if let Making::List(seventh) = &header.making {
-        sink.window(seventh);
+    if let Some(seventh) = header.seventh() {
+        sink.window(&seventh);
+    }
+    if let Some(session) = header.first_session() {
+        sink.word(session);
     }
 }
 

@@ -47,10 +47,16 @@ fn answer_part(answer: &Answer) -> String {
         Response::Decerr => "DECERR",
         Response::Wait => "wait",
     };
-    format!(
+    let mut text = format!(
         " {} slot {} sent {} data {:08x}",
         response, answer.slot, answer.sent, answer.data
-    )
+    );
+    // Left out where it is 0: so it is in all answers but an accepted release's,
+    // whose lines are then the only ones that it changes.
+    if answer.session != 0 {
+        let _ = write!(text, " session {}", answer.session);
+    }
+    text
 }
 
 /// The checksum of the area that was lent, for the calls that are lent one.

@@ -16,12 +16,15 @@ use crate::header::{Completion, Request};
 use crate::settings::{Settings, Window};
 
 pub const MAGIC: [u8; 4] = *b"APBT";
-/// The two versions: the bridge is made from plain arrays, or from a list of
-/// window records, and the header has one record more.
+/// The versions: the bridge is made from plain arrays; or from a list of window
+/// records, and the header has one record more; or so, and the header has the
+/// session counter's first value too.
 pub const VERSION_ARRAYS: u32 = 1;
 pub const VERSION_LIST: u32 = 2;
+pub const VERSION_SESSION: u32 = 3;
 pub const HEADER_BYTES: usize = 184;
 pub const RECORD_BYTES: usize = 24;
+pub const SESSION_BYTES: usize = 4;
 pub const END_BYTES: usize = 5;
 pub const AREA_LIMIT: u32 = 8192;
 pub const DATA_LIMIT: u32 = 8192;
@@ -51,6 +54,8 @@ pub enum Making {
     Arrays,
     /// From a list, whose seventh record is this.
     List(Window),
+    /// From such a list, with this first value of the session counter.
+    ListAndSession(Window, u32),
 }
 
 /// What stands before the events.
@@ -124,13 +129,33 @@ impl Header {
     /// The records of the list: as many as the count says, seven for a larger
     /// one. Nothing where the bridge is made from arrays.
     pub fn list(&self) -> Option<Vec<Window>> {
-        let Making::List(seventh) = self.making else {
-            return None;
-        };
         let mut records = self.settings.windows.to_vec();
-        records.push(seventh);
+        records.push(self.seventh()?);
         records.truncate(self.settings.count as usize);
         Some(records)
+    }
+
+    pub fn version(&self) -> u32 {
+        match self.making {
+            Making::Arrays => VERSION_ARRAYS,
+            Making::List(_) => VERSION_LIST,
+            Making::ListAndSession(..) => VERSION_SESSION,
+        }
+    }
+
+    pub fn seventh(&self) -> Option<Window> {
+        match self.making {
+            Making::Arrays => None,
+            Making::List(seventh) | Making::ListAndSession(seventh, _) => Some(seventh),
+        }
+    }
+
+    /// The first value of the session counter, where the header has one.
+    pub fn first_session(&self) -> Option<u32> {
+        match self.making {
+            Making::ListAndSession(_, session) => Some(session),
+            _ => None,
+        }
     }
 }
 

@@ -72,6 +72,9 @@ impl Machine {
             None => Bridge::new(&header.settings),
         };
         bridge.set_counter(header.counter);
+        if let Some(session) = header.first_session() {
+            bridge.set_session(session);
+        }
         Machine {
             bridge,
             store: (0..header.store).map(|i| (i % 251) as u8).collect(),

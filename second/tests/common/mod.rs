@@ -30,6 +30,15 @@ pub fn answer(number: u32, response: Response, slot: u32, sent: u32, data: u32) 
         slot,
         sent,
         data,
+        session: 0,
+    }
+}
+
+/// An accepted release.
+pub fn taken(response: Response, data: u32, session: u32) -> Answer {
+    Answer {
+        session,
+        ..answer(0, response, 0, 0, data)
     }
 }
 
@@ -101,7 +110,8 @@ impl Bench {
     pub fn strobed_write(&mut self, offset: u64, data: u32, strobes: u32) {
         let accepted = self.config(offset, true, data, strobes);
         assert_eq!(accepted, answer(0, Response::None, 8, 0, 0));
-        assert_eq!(self.release(8), answer(0, Response::Okay, 0, 0, 0));
+        let session = self.bridge.session();
+        assert_eq!(self.release(8), taken(Response::Okay, 0, session));
     }
 
     pub fn local_read(&mut self, offset: u64) -> u32 {
