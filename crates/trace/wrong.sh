@@ -72,7 +72,7 @@ done
     done
     # what `demand3` itself rests on: no example
     sed -i -e '/^use .*\.\(Example\|Applied\)\./d' -e '/^-- the example/,$d' crates/trace/proofs/Demand3.antt
-    rm crates/trace/specs/Example.antt crates/trace/specs/Applied.antt
+    rm crates/trace/specs/Example.antt crates/trace/specs/SessionExamples.antt crates/trace/specs/Applied.antt
     sed -i '/Example\|Applied/d' crates/trace/specs/Lib.antt
     echo Demand3 >"$room/trace"
     reached trace "$room/trace"

@@ -79,6 +79,10 @@ SessionIsLife =
     (s : Settings) (store : List ℕ) → storeSize ≤ length store
     → (before : List Event) (n : ℕ) → Reports (start s store) before n → n ≡ life before % 2 ^ 32
 
+-- 'fewer than 2^32 ups between' two points of a list
+abbrev pub FewUps : List Event → List Event → Type 0
+FewUps before between = ups (upAtEnd false before) between < 2 ^ 32
+
 -- EQUAL NUMBERS, and fewer than 2^32 ups between: no down link went up between the two accesses
 abbrev pub EqualIsSameLife : Type 0
 EqualIsSameLife =
@@ -86,7 +90,7 @@ EqualIsSameLife =
     → (before between : List Event) (n : ℕ)
     → Reports (start s store) before n
     → Reports (start s store) (before ++ between) n
-    → ups (upAtEnd false before) between < 2 ^ 32
+    → FewUps before between
     → ups (upAtEnd false before) between ≡ 0
 
 -- so where both went out, with the link up, the link did not drop between them
@@ -96,7 +100,7 @@ EqualIsNoDrop =
     → (before between : List Event) (n : ℕ)
     → Reports (start s store) before n
     → Reports (start s store) (before ++ between) n
-    → ups (upAtEnd false before) between < 2 ^ 32
+    → FewUps before between
     → registersOf (run (start s store) before .bridge) .link ≡ true
     → registersOf (run (start s store) (before ++ between) .bridge) .link ≡ true
     → Steady between

@@ -13,7 +13,7 @@ with-link-requires : tie.Need-with-link-requires
 with-link-requires c κs = search needs
 
 returns : tie.Need-returns
-returns c = λ cells. rw (c .before .before .if1 .taken, c .with-link .ensures cells, c .before .next-session .ensures)
+returns c = λ cells. rw (c .before .before .if1 .taken, ← c .before .next-session .ensures) (c .with-link .ensures cells)
 
 with-link-requires-2 : tie.Need-with-link-requires-2
 with-link-requires-2 c κs = search needs
