@@ -7,14 +7,13 @@ use Rattle.tags.specs.Tags.{lowest, available, without, lowestFew}
 use Rattle.tags.proofs.Tags.{take-one-by-one, turn-takes}
 use Rattle.address.specs.declared.Settings.{Settings}
 use Rattle.burst.specs.declared.Burst.{Burst}
-use Rattle.burst.specs.Bursts.{lengthOf}
 use Rattle.parts.specs.Cores.{Core}
 use Rattle.parts.specs.declared.Pending.{Pending}
 use Rattle.machine.specs.State.{Bridge, tagCount, withFree, opened, freeSlot}
 use Rattle.machine.specs.Memory.{piecesOf, pieceOf, readRefusal, claimed, readBridge, piecePending}
 use Rattle.machine.proofs.Refusals.{read-ok}
 use Rattle.bridge_laws.specs.MemoryLaws.{tagOf, Tables}
-use Rattle.bridge_laws.specs.Rows.{pendingTag, waitingSlot, takenCore}
+use Rattle.bridge_laws.specs.Rows.{pendingTag, claimedSlot, takenCore}
 use Rattle.bridge_laws.specs.Effects.{Acts, same}
 use Rattle.bridge_laws.proofs.Effects.{claimed-acts, opened-acts}
 use Rattle.bridge_laws.proofs.Turns.{each-piece}
@@ -24,7 +23,7 @@ abbrev pub turnPending : Bridge → Burst → ℕ → Pending
 turnPending b q i = piecePending (freeSlot b) (b .settings) q (pieceOf (b .settings .reads) q i)
 
 module _ (b : Bridge) (q : Burst) (room : ℕ) (v : Tables b) (e : readRefusal b q room ≡ 0) (P : ℕ → Bridge → Type 0)
-    (start : (x : Bridge) → ((t : ℕ) → Acts t (freeSlot b) same (λ o. waitingSlot (lengthOf q) (piecesOf (b .settings .reads) q) (b .core .session)) same b x) → P 0 x)
+    (start : (x : Bridge) → ((t : ℕ) → Acts t (freeSlot b) same (λ o. claimedSlot b q) same b x) → P 0 x)
     (turn : (i : ℕ) (x y : Bridge) → i < piecesOf (b .settings .reads) q → 0 < available tagCount (x .core .free) → lowest tagCount (x .core .free) ≡ tagOf b i
     → Acts (lowest tagCount (x .core .free)) (freeSlot b) (λ o. pendingTag (b .core .ticks) (turnPending b q i)) same takenCore x y → P i x → P (suc i) y) where
   abbrev n : ℕ
@@ -33,7 +32,7 @@ module _ (b : Bridge) (q : Burst) (room : ℕ) (v : Tables b) (e : readRefusal b
   abbrev claim : Bridge
   claim = claimed (freeSlot b) q b
 
-  claims : (t : ℕ) → Acts t (freeSlot b) same (λ o. waitingSlot (lengthOf q) n (b .core .session)) same b claim
+  claims : (t : ℕ) → Acts t (freeSlot b) same (λ o. claimedSlot b q) same b claim
   claims t = claimed-acts t (freeSlot b) q b v (read-ok b q room e .slot)
 
   -- the i lowest free tags are taken

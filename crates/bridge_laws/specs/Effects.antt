@@ -11,7 +11,6 @@ use Rattle.common.specs.Decode.{linkDownBit, cfgTimeout}
 use Rattle.bits.specs.Bits.{isSet}
 use Rattle.tags.specs.Tags.{lowest, available}
 use Rattle.burst.specs.declared.Burst.{Burst}
-use Rattle.burst.specs.Bursts.{lengthOf}
 use Rattle.parts.specs.Cores.{Core}
 use Rattle.parts.specs.declared.Pending.{Pending}
 use Rattle.verdict.specs.declared.Cause.{Cause}
@@ -20,13 +19,13 @@ use Rattle.verdict.specs.declared.Verdict.{Verdict}
 use Rattle.verdict.specs.declared.Verdict.the-variants.{Good, Poisoned, Failed}
 use Rattle.machine.specs.State.{Bridge, Tag, Slot, withFree, tagAt, slotAt, missingOf, placeOf, ownerOf, tagCount, slotCount, slotSize, slverr, withConfig, openConfig, figuresNow, freeConfig, raisedCore, coreIn, opened, counted, shut, freed}
 use Rattle.machine.specs.Verdict.{causeResponse, causeBit}
-use Rattle.machine.specs.Memory.{piecesOf, claimed}
+use Rattle.machine.specs.Memory.{claimed}
 use Rattle.machine.specs.Config.{Access, routedBridge, wordPending}
 use Rattle.machine.specs.Completions.{Held, held, usefulBytes, failed, pieceClosed, memoryCompleted, configCompleted, configAnswer, configDone, isUnexpected}
 use Rattle.machine.specs.Ticks.{timedOut, dropSlots, linkLost, linkIn, dropConfig}
 use Rattle.machine.specs.Take.{slotFreed}
 use Rattle.bridge_laws.specs.MemoryLaws.{Tables}
-use Rattle.bridge_laws.specs.Rows.{Resting, countedTag, shutTag, pendingTag, faultedSlot, closedSlot, waitingSlot, droppedSlot, freedSlot, freedCore, takenCore, closedStore, droppedTo}
+use Rattle.bridge_laws.specs.Rows.{Resting, countedTag, shutTag, pendingTag, faultedSlot, closedSlot, claimedSlot, droppedSlot, freedSlot, freedCore, takenCore, closedStore, droppedTo}
 
 -- ---- an effect
 
@@ -71,7 +70,7 @@ FailedActs =
 abbrev pub ClaimedActs : Type 0
 ClaimedActs =
     (t k : ℕ) (q : Burst) (b : Bridge) → Tables b → k < slotCount
-    → Acts t k same (λ s. waitingSlot (lengthOf q) (piecesOf (b .settings .reads) q) (b .core .session)) same b (claimed k q b)
+    → Acts t k same (λ s. claimedSlot b q) same b (claimed k q b)
 
 -- a piece is closed: the slot, and the store
 pub record Closed (t k : ℕ) (h x : Held) : Type 0 where

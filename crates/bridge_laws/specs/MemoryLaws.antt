@@ -27,7 +27,7 @@ use Rattle.burst.specs.Words.{wordAddress, lowerAddress, wanted, wordsOf}
 use Rattle.machine.specs.Bridge.{Bridge}
 use Rattle.machine.specs.State.{tagCount, slotCount, memoryRead, tagAt, slotAt, raise, freeSlot, refusal}
 use Rattle.machine.specs.Memory.{windowFor, pcieOf, piecesOf, pieceOf, placeIn, memoryRequest, pieceRequest, packet, readRefusal, readBridge, readBytes, readStep, readArea, writeRefusal, writeBytes, writeStep, writeArea}
-use Rattle.bridge_laws.specs.Rows.{waitingSlot}
+use Rattle.bridge_laws.specs.Rows.{claimedSlot}
 
 -- ## Behind the window
 
@@ -166,7 +166,7 @@ pub record ReadOpens (b : Bridge) (q : Burst) (c : Bridge) : Type 0 where
         next = lowerAddress (pcieOf (b .settings .windows) q (pieceOf (b .settings .reads) q k .first));
         kind = memoryRead;
       }
-  pub slot : slotAt c (freeSlot b) ≡ waitingSlot (lengthOf q) (piecesOf (b .settings .reads) q) (b .core .session)
+  pub slot : slotAt c (freeSlot b) ≡ claimedSlot b q
 
 abbrev pub AcceptedReadOpens : Type 0
 AcceptedReadOpens =

@@ -6,10 +6,13 @@ use mathlib.Core.Bool.{true, false, cond}
 use lib.Dec.{ltb, leb, eqb}
 use Rattle.bits.specs.Bits.{isSet, setBit, clearBit}
 use Rattle.tags.specs.Tags.{lowest}
+use Rattle.burst.specs.declared.Burst.{Burst}
+use Rattle.burst.specs.Bursts.{lengthOf}
 use Rattle.burst.specs.Words.{lowerAddress}
 use Rattle.parts.specs.Cores.{Core}
 use Rattle.parts.specs.declared.Pending.{Pending}
 use Rattle.machine.specs.State.{Bridge, missingOf, Tag, Slot, tagCount, slotSize, slotFree, slotOpen, slotFinished, okay, slverr, withFree}
+use Rattle.machine.specs.Memory.{piecesOf}
 use Rattle.machine.specs.Completions.{zeroed}
 
 -- ---- a tag is free, open (`Open`) or resting
@@ -72,6 +75,10 @@ closedSlot s = cond (leb (s .pieces) 1) (finishedSlot s) (fewerSlot s)
 abbrev pub waitingSlot : ℕ → ℕ → ℕ → Slot
 waitingSlot n count session =
     record { state = slotOpen; size = n; pieces = count; fault = slotSize; cause = okay; session = session }
+
+-- so does the slot that an accepted read takes
+abbrev pub claimedSlot : Bridge → Burst → Slot
+claimedSlot b q = waitingSlot (lengthOf q) (piecesOf (b .settings .reads) q) (b .core .session)
 
 -- the link drops: an open read is finished as SLVERR
 abbrev pub lostSlot : Slot → Slot

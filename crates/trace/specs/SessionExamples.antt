@@ -3,13 +3,12 @@ use Prim.Native.Nat.{ℕ, _-_, _^_}
 use mathlib.Core.Path.{_≡_}
 use mathlib.Core.List.{List, [], _∷_, map}
 use mathlib.Core.Bool.{true, false}
-use lib.ListN.{replicate}
 use Rattle.address.specs.Settings.{exampleSettings}
 use Rattle.parts.specs.Cores.{withSession}
 use Rattle.machine.specs.State.{coreIn}
 use Rattle.machine.specs.Memory.{areaSize}
 use Rattle.machine.specs.Config.{Access, accessOf}
-use Rattle.machine.specs.Completions.{storeSize, Held, held}
+use Rattle.machine.specs.Completions.{Held, held}
 use Rattle.trace.specs.Events.{read, write, config, look, release, Event, call, completion, tick, link, start, Seen, seen}
 use Rattle.trace.specs.Example.{store, four, good}
 

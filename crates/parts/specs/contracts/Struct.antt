@@ -25,6 +25,3 @@ structTicks x c = record { registers = c .registers; ticks = x; session = c .ses
 
 abbrev pub structConfig : ConfigSlot → code.Core → code.Core
 structConfig x c = record { registers = c .registers; ticks = c .ticks; session = c .session; free = c .free; config = x }
-
-abbrev pub structSession : ℕ → code.Core → code.Core
-structSession x c = record { registers = c .registers; ticks = c .ticks; session = x; free = c .free; config = c .config }

@@ -18,7 +18,7 @@ use Rattle.machine.specs.Completions.{Held, held}
 use Rattle.machine.specs.Take.{stateIn, stateOf, takeRefusal, looked, slotFreed, releaseStep}
 use Rattle.machine.proofs.Configs.{passed}
 use Rattle.bridge_laws.specs.CompletionLaws.{slotOf, Unawaited, AnswerSame}
-use Rattle.bridge_laws.proofs.Parts.{same-state, same-size, same-cause}
+use Rattle.bridge_laws.proofs.Parts.{same-state, same-size}
 use Rattle.bridge_laws.proofs.Effects.{released-acts, routed-acts}
 use Rattle.bridge_laws.proofs.Kept.{accepted-read-keeps}
 use Rattle.bridge_laws.proofs.Finished.{slot-same, answer-same, answer-then, finished-stays}

@@ -1,25 +1,23 @@
 -- The link and the session counter along a list of events: no event but a link event changes them.
-use Prim.Native.Nat.{ℕ, _+_, _%_, _^_, _≤_, _<_}
+use Prim.Native.Nat.{ℕ, _+_, _%_, _^_, _<_}
 use mathlib.Core.Path.{_≡_, refl, sym, ap, _∙_, subst}
 use mathlib.Core.Logic.{by-cases}
 use mathlib.Core.List.{List, [], _∷_, _++_}
 use mathlib.Core.Bool.{Bool, true, false, cond, _&&_, not}
 use native.Mathlib.Omega.{arith}
 use native.Mathlib.Decide.{decLt}
-use lib.ListN.{length, drop}
-use Rattle.tlp.specs.declared.completion.Completion.{Completion}
-use Rattle.address.specs.declared.Settings.{Settings}
+use lib.ListN.{drop}
 use Rattle.ecam.specs.Registers.{Registers, fresh}
 use Rattle.parts.specs.Cores.{Core}
 use Rattle.verdict.specs.declared.Verdict.{Verdict}
-use Rattle.machine.specs.State.{Answered, slotCount, tagCount, withTicks, coreIn, raisedCore, refused, refusalChange, freshBridge, freshCore, newBridge, registersOf}
+use Rattle.machine.specs.State.{slotCount, withTicks, coreIn, raisedCore}
 use Rattle.machine.specs.Config.{routeOf}
 use Rattle.machine.specs.Completions.{Held, held}
 use Rattle.machine.specs.Ticks.{nextTick, nextSession}
 use Rattle.machine.proofs.Configs.{passed}
 use Rattle.bridge_laws.specs.MemoryLaws.{Tables}
-use Rattle.bridge_laws.specs.Effects.{Acts, Serves, good-part, good-last, poison-part, poison-last, fails, Expires, memory, config}
-use Rattle.bridge_laws.proofs.Cores.{Registered, raised-core, refusal-core, local-core}
+use Rattle.bridge_laws.specs.Effects.{Serves, good-part, good-last, poison-part, poison-last, fails, Expires, memory, config}
+use Rattle.bridge_laws.proofs.Cores.{raised-core, local-core}
 use Rattle.bridge_laws.proofs.Effects.{memory-serves, config-serves, timed-out-expires, routed-acts, released-acts, drop-loses}
 use Rattle.bridge_laws.proofs.FreshLaws.{new-is-fresh}
 use Rattle.bridge_laws.proofs.Kept.{accepted-read-keeps}
@@ -27,7 +25,7 @@ use Rattle.bridge_laws.proofs.Turns.{each-tag}
 use Rattle.trace.specs.Events as event
 use Rattle.trace.specs.Events.{Event, step, run, start}
 use Rattle.trace.specs.Sound.{Sound}
-use Rattle.trace.specs.Sessions.{upAfter, rises, upAtEnd, ups, life, Counts, RunCounts}
+use Rattle.trace.specs.Sessions.{upAfter, rises, upAtEnd, ups, RunCounts}
 use Rattle.trace.proofs.Soundness.Fine.{tag-below}
 use Rattle.trace.proofs.Soundness.Ticking.{test-open}
 use Rattle.trace.proofs.Soundness.View.{Move, idle, missed, reads, locals, routes, memories, configs, ticks, drops, links, releases, moves}

@@ -3,12 +3,11 @@ use Prim.Native.Nat.{ℕ, _≤_, _<_}
 use mathlib.Core.Path.{_≡_, refl, sym, ap, _∙_, subst}
 use mathlib.Core.Logic.{_≢_, by-cases}
 use mathlib.Core.List.{List, [], _∷_}
-use mathlib.Core.Bool.{Bool, true, false, cond}
+use mathlib.Core.Bool.{false}
 use native.Mathlib.Omega.{arith}
 use native.Mathlib.Decide.{decLt}
 use lib.ListN.{length, drop, getD}
 use lib.Dec.{ltb, leb, eqb}
-use Rattle.tlp.specs.declared.completion.Completion.{Completion}
 use Rattle.parts.specs.Cores.{Core}
 use Rattle.parts.specs.declared.ConfigSlot.{ConfigSlot}
 use Rattle.verdict.specs.declared.Cause.the-variants.{Timeout, UnsupportedRequest, RequestRetry, CompleterAbort, Poison}
@@ -22,7 +21,7 @@ use Rattle.machine.specs.Take.{stateOf, takeRefusal, slotFreed}
 use Rattle.machine.proofs.Configs.{passed}
 use Rattle.machine.proofs.Refusals.{read-ok}
 use Rattle.bridge_laws.specs.MemoryLaws.{Tables}
-use Rattle.bridge_laws.specs.Rows.{notedSlot, faultedSlot, finishedSlot, fewerSlot, closedSlot, lostSlot, droppedSlot}
+use Rattle.bridge_laws.specs.Rows.{faultedSlot, closedSlot, droppedSlot}
 use Rattle.bridge_laws.specs.Effects.{Acts, Serves, good-part, good-last, poison-part, poison-last, fails, Expires, memory, config}
 use Rattle.bridge_laws.proofs.Cores.{raised-core, local-core}
 use Rattle.bridge_laws.proofs.EachRow.{each-slot-row}

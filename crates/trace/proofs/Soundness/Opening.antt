@@ -34,7 +34,7 @@ use Rattle.machine.specs.Take.{stateOf}
 use Rattle.machine.proofs.Judging.{never}
 use Rattle.machine.proofs.Refusals.{ReadOk, read-ok}
 use Rattle.machine.proofs.Configs.{passed}
-use Rattle.bridge_laws.specs.Rows.{pendingTag, waitingSlot, takenCore}
+use Rattle.bridge_laws.specs.Rows.{pendingTag, claimedSlot, takenCore}
 use Rattle.bridge_laws.specs.Effects.{Acts, same}
 use Rattle.bridge_laws.proofs.Effects.{claimed-acts, opened-acts, routed-acts}
 use Rattle.bridge_laws.proofs.Turns.{each-piece}
@@ -151,7 +151,7 @@ module _ {over : ℕ → ℕ} (b : Bridge) (q : Burst) (room : ℕ) (v : FineTo 
   ok : ReadOk b q room
   ok = read-ok b q room e
 
-  claims : Acts 0 k same (λ s. waitingSlot (lengthOf q) all (b .core .session)) same b c
+  claims : Acts 0 k same (λ s. claimedSlot b q) same b c
   claims = claimed-acts 0 k q b (v .sizes) (ok .slot)
 
   not-open : stateOf b k ≢ 1
