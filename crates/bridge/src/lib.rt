@@ -7,6 +7,7 @@ use messages::queue::DEPTH;
 pub use parts::Answer;
 pub use parts::ConfigSlot;
 pub use parts::Core;
+pub use parts::Figures;
 use parts::SLOT_CELLS;
 use parts::TAG_CELLS;
 use parts::TAGS;

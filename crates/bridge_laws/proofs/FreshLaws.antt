@@ -13,7 +13,7 @@ use Rattle.address.specs.declared.Settings.{Settings}
 use Rattle.address.specs.Settings.{powerAmong, eachFrom, windowRight, apart, windowsRight, settingsRight, settingsNumber, exampleSettings}
 use Rattle.ecam.specs.Registers.{status, some, decodeBits, isDecodeBit, fresh, shown, localRead, line}
 use Rattle.machine.specs.Bridge.{Bridge}
-use Rattle.machine.specs.State.{Answered, tagCount, refusalChange, refusal, accepted, refused, freshCore, freshBridge, newBridge}
+use Rattle.machine.specs.State.{Answered, tagCount, slotCount, refusalChange, refusal, accepted, refused, freshCore, freshBridge, newBridge}
 use Rattle.machine.specs.Take.{stateIn}
 use Rattle.machine.proofs.Judging.{never}
 use Rattle.bridge_laws.specs.ConfigLaws.{Fresh, NewIsFresh, NewNumber, NewKeeps, NewIsRight}
@@ -53,7 +53,9 @@ fresh-is s =
       words = word-reads;
       line = line-low;
       ticks = refl;
-      session = refl;
+      counter = refl;
+      sessions = zeros slotCount;
+      config = refl;
       tags = all-free tagCount;
       missing = zeros tagCount;
       slots = slot-free;

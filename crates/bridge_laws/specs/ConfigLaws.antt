@@ -20,7 +20,7 @@ use Rattle.refusals.specs.declared.Response.{Response}
 use Rattle.refusals.specs.Responses.{codeOf}
 use Rattle.parts.specs.Cores.{Core}
 use Rattle.machine.specs.Bridge.{Bridge}
-use Rattle.machine.specs.State.{tagCount, configSlot, configRead, configWrite, withRegisters, withConfig, freeConfig, openConfig, doneConfig, figuresNow, coreIn, putState, tagAt, slotAt, okay, responseOf, refusal, answered, newBridge, registersOf, lineOf}
+use Rattle.machine.specs.State.{tagCount, configSlot, configRead, configWrite, withRegisters, withConfig, freeConfig, openConfig, doneConfig, figuresNow, coreIn, putState, tagAt, slotAt, sessionOf, okay, responseOf, refusal, answered, newBridge, registersOf, lineOf}
 use Rattle.machine.specs.contracts.Passing.{Passed}
 use Rattle.machine.specs.Config.{Access, routeOf, goesOut, configNumber, configRefusal, routedRequest, payloadOf, configBytes, configStep, configArea}
 use Rattle.machine.specs.Completions.{sizeOf}
@@ -30,13 +30,15 @@ use Rattle.bridge_laws.specs.MemoryLaws.{Tables}
 -- ---- a fresh bridge
 
 -- whatever the settings: 'link down, all registers and the tick counter zero, 32 free tags, 8 free read slots and one free
--- configuration slot'; a local word reads 0, but for 130
+-- configuration slot'; a local word reads 0, but for 130; the session counter and the sessions of the slots are 0
 pub record Fresh (b : Bridge) : Type 0 where
   pub registers : registersOf b ≡ fresh
   pub words : (v : ℕ) → localRead (registersOf b) v ≡ cond (eqb v 0x130) 0x0000000B 0
   pub line : lineOf b ≡ false
   pub ticks : b .core .ticks ≡ 0
-  pub session : b .core .session ≡ 0
+  pub counter : b .core .session ≡ 0
+  pub sessions : (k : ℕ) → sessionOf b k ≡ 0
+  pub config : b .core .config ≡ freeConfig
   pub tags : available tagCount (b .core .free) ≡ tagCount
   pub missing : (t : ℕ) → getD (b .missing) t 0 ≡ 0
   pub slots : (k : ℕ) → stateOf b k ≡ 0
@@ -108,7 +110,7 @@ pub record Opens (a : Access) (b c : Bridge) : Type 0 where
   pub settings : c .settings ≡ b .settings
   pub registers : registersOf c ≡ registersOf b
   pub ticks : c .core .ticks ≡ b .core .ticks
-  pub session : c .core .session ≡ b .core .session
+  pub counter : c .core .session ≡ b .core .session
   pub config : c .core .config ≡ openConfig (a .write) (figuresNow (b .core))
   pub free : c .core .free ≡ clearBit (b .core .free) (lowest tagCount (b .core .free))
   pub fewer : available tagCount (b .core .free) ≡ suc (available tagCount (c .core .free))

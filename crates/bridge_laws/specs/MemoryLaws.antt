@@ -122,13 +122,13 @@ abbrev pub AcceptedReadSends : Type 0
 AcceptedReadSends =
     (b : Bridge) (q : Burst) (room : ℕ) → settingsNumber (b .settings) ≡ 0 → readRefusal b q room ≡ 0 → ReadSends b q
 
--- what it leaves as it was: settings, registers, ticks, session, configuration slot; the rows of other slots, and of tags that are not
--- free
+-- what it leaves as it was: settings, registers, both counters, configuration slot; the rows of other slots, and of tags that
+-- are not free
 pub record ReadKeeps (b c : Bridge) : Type 0 where
   pub settings : c .settings ≡ b .settings
   pub registers : c .core .registers ≡ b .core .registers
   pub ticks : c .core .ticks ≡ b .core .ticks
-  pub session : c .core .session ≡ b .core .session
+  pub counter : c .core .session ≡ b .core .session
   pub config : c .core .config ≡ b .core .config
   pub slots : (k : ℕ) → k ≢ freeSlot b → slotAt c k ≡ slotAt b k
   pub free : (t : ℕ) → isSet (b .core .free) t ≡ false → isSet (c .core .free) t ≡ false

@@ -71,7 +71,7 @@ fewerSlot s =
 abbrev pub closedSlot : Slot → Slot
 closedSlot s = cond (leb (s .pieces) 1) (finishedSlot s) (fewerSlot s)
 
--- it waits for n bytes, in so many pieces, accepted in a session
+-- it waits for n bytes, in so many pieces, of a read that was accepted in a session
 abbrev pub waitingSlot : ℕ → ℕ → ℕ → Slot
 waitingSlot n count session =
     record { state = slotOpen; size = n; pieces = count; fault = slotSize; cause = okay; session = session }

@@ -10,7 +10,7 @@ use Rattle.machine.specs.Ticks.{ticked, linked}
 use Rattle.machine.specs.Take.{stateOf}
 use Rattle.bridge_laws.specs.CompletionLaws.{Unawaited, AnswerSame}
 
--- a refused tick or link event changes nothing: the counter does not step
+-- a refused tick or link event changes nothing: no counter steps
 abbrev pub RefusedTick : Type 0
 RefusedTick = (h : Held) → length (h .store) < storeSize → ticked h ≡ h
 

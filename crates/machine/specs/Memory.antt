@@ -13,7 +13,7 @@ use Rattle.burst.specs.Bursts.{lengthOf}
 use Rattle.refusals.specs.declared.Response.the-variants.{Nothing, Okay}
 use Rattle.parts.specs.declared.Pending.{Pending}
 use Rattle.parts.specs.Pendings.{memoryPending}
-use Rattle.machine.specs.State.{Bridge, Answered, tagCount, slotSize, slotOpen, okay, setState, setSize, setPieces, setFault, setCause, setSession, opened, freeSlot, accepted, answered, refused}
+use Rattle.machine.specs.State.{Bridge, Answered, tagCount, slotSize, slotOpen, okay, setState, setSize, setPieces, setFault, setCause, setSession, figuresNow, opened, freeSlot, accepted, answered, refused}
 pub use Rattle.parts.specs.Access.{areaSize}
 pub use Rattle.packets.specs.Packets.{filled, windowFor, indexOf, piecesOf, pieceOf, placeIn, pieceRequest}
 unfoldable pub use Rattle.packets.specs.Packets.{pcieOf, memoryRequest, packet}
@@ -26,10 +26,10 @@ pub use Rattle.machine.specs.Refusals.{readNumber, writeNumber}
 unfoldable pub readRefusal : Bridge → Burst → ℕ → ℕ
 readRefusal b q room = readNumber (b .settings) (b .core) (freeSlot b) q room
 
--- slot k waits for n bytes, in so many pieces, accepted in the present session
+-- slot k waits for n bytes, in so many pieces, of a read that is accepted now
 abbrev pub waitingFor : ℕ → ℕ → ℕ → Bridge → Bridge
 waitingFor k n count b =
-    setState k slotOpen (setSize k n (setPieces k count (setFault k slotSize (setCause k okay (setSession k (b .core .session) b)))))
+    setState k slotOpen (setSize k n (setPieces k count (setFault k slotSize (setCause k okay (setSession k (figuresNow (b .core) .session) b)))))
 
 -- and for a burst
 unfoldable pub claimed : ℕ → Burst → Bridge → Bridge

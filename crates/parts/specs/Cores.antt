@@ -11,7 +11,7 @@ pub use Rattle.parts.specs.Sizes.{tagCount}
 pub record Core : Type 0 where
   pub registers : Registers
   pub ticks : ℕ
-  -- how often a down link went up
+  -- how often a down link went up, mod 2^32
   pub session : ℕ
   -- the free tags, as the ones of a word
   pub free : ℕ
@@ -82,6 +82,6 @@ nextSession x = (x + 1) % 2 ^ 32
 abbrev pub sessionAfter : Bool → Core → ℕ
 sessionAfter up c = cond (up && not (c .registers .link)) (nextSession (c .session)) (c .session)
 
--- the link goes up, or the event repeats its present state
+-- a link event that is no drop: the link goes up, or the event repeats its present state
 abbrev pub linkTo : Bool → Core → Core
 linkTo up c = linkIn up (withSession (sessionAfter up c) c)

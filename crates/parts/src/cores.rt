@@ -50,7 +50,7 @@ pub fn next_session(x: u32) -> u32
     std::num::wrapping_add_u32(x, 1)
 }
 
-// The link goes up, which begins a session if it was down, or the event repeats its present state.
+// A link event that is no drop: one that brings a down link up begins a session, any other repeats the present state.
 pub fn link_to(c: Core, up: bool) -> Core
     ensures { λ r. ⌜ ((cells : List ℕ) → coreFrom r cells ≡ linkTo up (coreFrom c cells)) ⌝ }
 {

@@ -97,7 +97,7 @@ pub struct Pending {
 pub struct Core {
     pub registers: Registers,
     pub ticks: u32,
-    // How often a down link went up; it starts again at zero.
+    // How often a down link went up; it starts again at zero after its last value.
     pub session: u32,
     // The free tags, as the ones of a word.
     pub free: u32,

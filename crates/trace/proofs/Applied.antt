@@ -170,6 +170,14 @@ registers-new : registersOf (new .bridge) ≡ cleared-registers
 unfolding bit isSet fromBits setBit clearBit freeFrom validCompletion completionReserved readCompletion powerAmong eachFrom windowRight apart windowsRight settingsRight settingsNumber holds firstFrom windowOf translated endFrom burstRight burstNumber lengthOf pieceCount pieceFirst pieceEnd pieceAt addresses some decodeBits isDecodeBit byte strobe strobed reached errorBits isErrorBit clears cleared numbered writeBuses localWrite raised fresh route dataWord raisedCore opened counted shut freed freeSlotFrom responseOf refusalResponse refusalChange refusal accepted taken refused freshCore freshBridge newBridge pcieOf readRefusal claimed readTo readStep configNumber localCore routedBridge configStep memoryVerdict configVerdict faulted failed finished pieceClosed advanced memoryCompleted configAnswer configCompleted verdictOf completionOf completeRefusal expected completed timedOut expire expireTo ticked dropSlot dropSlots linkLost linked stateIn takeNumber looked slotFreed releaseStep
 registers-new = refl
 
+counter-old : old .bridge .core .session ≡ 2
+unfolding bit isSet fromBits setBit clearBit freeFrom validCompletion completionReserved readCompletion powerAmong eachFrom windowRight apart windowsRight settingsRight settingsNumber holds firstFrom windowOf translated endFrom burstRight burstNumber lengthOf pieceCount pieceFirst pieceEnd pieceAt addresses some decodeBits isDecodeBit byte strobe strobed reached errorBits isErrorBit clears cleared numbered writeBuses localWrite raised fresh route dataWord raisedCore opened counted shut freed freeSlotFrom responseOf refusalResponse refusalChange refusal accepted taken refused freshCore freshBridge newBridge pcieOf readRefusal claimed readTo readStep configNumber localCore routedBridge configStep memoryVerdict configVerdict faulted failed finished pieceClosed advanced memoryCompleted configAnswer configCompleted verdictOf completionOf completeRefusal expected completed timedOut expire expireTo ticked dropSlot dropSlots linkLost linked stateIn takeNumber looked slotFreed releaseStep
+counter-old = refl
+
+counter-new : new .bridge .core .session ≡ 0
+unfolding bit isSet fromBits setBit clearBit freeFrom validCompletion completionReserved readCompletion powerAmong eachFrom windowRight apart windowsRight settingsRight settingsNumber holds firstFrom windowOf translated endFrom burstRight burstNumber lengthOf pieceCount pieceFirst pieceEnd pieceAt addresses some decodeBits isDecodeBit byte strobe strobed reached errorBits isErrorBit clears cleared numbered writeBuses localWrite raised fresh route dataWord raisedCore opened counted shut freed freeSlotFrom responseOf refusalResponse refusalChange refusal accepted taken refused freshCore freshBridge newBridge pcieOf readRefusal claimed readTo readStep configNumber localCore routedBridge configStep memoryVerdict configVerdict faulted failed finished pieceClosed advanced memoryCompleted configAnswer configCompleted verdictOf completionOf completeRefusal expected completed timedOut expire expireTo ticked dropSlot dropSlots linkLost linked stateIn takeNumber looked slotFreed releaseStep
+counter-new = refl
+
 at-alike : AtAlike
 at-alike =
     record {
@@ -177,6 +185,8 @@ at-alike =
       left-new = left-new;
       settings = settings-old ∙ sym settings-new;
       registers = registers-old ∙ sym registers-new;
+      counter-old = counter-old;
+      counter-new = counter-new;
     }
 
 alike-there : AlikeThere

@@ -3,7 +3,7 @@ use mathlib.Core.Path.{_≡_}
 use mathlib.Core.List.{List, map}
 use Rattle.machine.specs.Take.{looked}
 use Rattle.trace.specs.Events.{Event, seen}
-use Rattle.trace.specs.Claims.{sessionless, Demand3}
+use Rattle.trace.specs.Claims.{seenApart, Demand3}
 use Rattle.trace.specs.Example.{tenBytes}
 use Rattle.trace.specs.Applied.{there, old, new}
 use Rattle.trace.proofs.Bytes.Bytes as first
@@ -27,5 +27,5 @@ demand3 = record {
 pub example-bytes : looked (there .bridge) (there .store) 0 ≡ tenBytes
 example-bytes = applied .bytes (demand3 .bytes)
 
-pub example-alike : (later : List Event) → map sessionless (seen old later) ≡ map sessionless (seen new later)
+pub example-alike : (later : List Event) → map seenApart (seen old later) ≡ map seenApart (seen new later)
 example-alike = applied .alike (demand3 .alike)

@@ -4,3 +4,4 @@ pub mod Kept
 pub mod Lives
 pub mod Figures
 pub mod Examples
+pub mod Differ

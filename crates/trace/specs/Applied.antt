@@ -11,7 +11,7 @@ use Rattle.machine.specs.Completions.{storeSize, Held}
 use Rattle.machine.specs.Take.{looked}
 use Rattle.trace.specs.Events.{read, config, Event, call, completion, tick, link, look, release, step, run, start, seen}
 use Rattle.trace.specs.FarSide.{requests, paired, FarSide}
-use Rattle.trace.specs.Claims.{Answered, AnsweredOkay, Untaken, Until, sentFor, Bytes, ticks, ReadDeadline, ConfigDeadline, Steady, goodBytes, ReadOkay, anyGoodWord, ConfigOkay, LocalOkay, Left, sessionless, Alike}
+use Rattle.trace.specs.Claims.{Answered, AnsweredOkay, Untaken, Until, sentFor, Bytes, ticks, ReadDeadline, ConfigDeadline, Steady, goodBytes, ReadOkay, anyGoodWord, ConfigOkay, LocalOkay, Left, seenApart, Alike}
 use Rattle.trace.specs.Example.{settings, store, begun, four, ten, setBuses, onBus1, g1, sent, before, during, toConfig, events, tenBytes}
 
 -- ---- the read of ten bytes: it is called here, takes slot 0 and is answered there
@@ -106,8 +106,8 @@ pub record AtFirst : Type 0 where
 abbrev pub ReadEnds : Type 0
 ReadEnds = ReadDeadline → Until (Answered 0) 0 first (tick ∷ call (look 0) ∷ tick ∷ [])
 
--- ---- the bridge after the list and a link drop, its causes cleared; and another that has only been given its bus
--- numbers, one tick after the start, with a longer store of other bytes
+-- ---- the bridge after the list and a link drop, its causes cleared, after two lives of the link; and another that has only
+-- been given its bus numbers, one tick after the start, with a longer store of other bytes, whose link has never gone up
 
 abbrev pub clearCauses : Access
 clearCauses = accessOf 0x138 true 0xF 0xFFFFFFFF
@@ -123,9 +123,11 @@ pub record AtAlike : Type 0 where
   pub left-new : Left new
   pub settings : old .bridge .settings ≡ new .bridge .settings
   pub registers : registersOf (old .bridge) ≡ registersOf (new .bridge)
+  pub counter-old : old .bridge .core .session ≡ 2
+  pub counter-new : new .bridge .core .session ≡ 0
 
 abbrev pub AlikeThere : Type 0
-AlikeThere = Alike → (later : List Event) → map sessionless (seen old later) ≡ map sessionless (seen new later)
+AlikeThere = Alike → (later : List Event) → map seenApart (seen old later) ≡ map seenApart (seen new later)
 
 -- ---- all
 

@@ -207,9 +207,9 @@ pub record Left (h : Held) : Type 0 where
   -- with the link down no slot is open, so free and taken are the same
   pub taken : (k : ℕ) → k < 9 → stateOf (h .bridge) k ≡ 0
 
--- 'compares answers apart from their session numbers': what is seen, with 0 in their place
-abbrev pub withoutSession : Figures → Figures
-withoutSession f = record { session = 0 }
+-- 'compares answers apart from their session numbers': what is seen, with 0 in their place; every other figure is passed on
+abbrev pub figuresApart : Figures → Figures
+figuresApart f = record { session = 0 }
 
 abbrev pub answerApart : Answer → Answer
 answerApart a =
@@ -219,11 +219,11 @@ answerApart a =
       slot = a .slot;
       length = a .length;
       word = a .word;
-      figures = withoutSession (a .figures);
+      figures = figuresApart (a .figures);
     }
 
-abbrev pub sessionless : Seen → Seen
-sessionless x =
+abbrev pub seenApart : Seen → Seen
+seenApart x =
     record {
       out = record { answer = answerApart (x .out .answer); sent = x .out .sent; part = x .out .part };
       registers = x .registers;
@@ -237,7 +237,7 @@ Alike =
     (x y : Held) → Left x → Left y
     → x .bridge .settings ≡ y .bridge .settings
     → registersOf (x .bridge) ≡ registersOf (y .bridge)
-    → (later : List Event) → map sessionless (seen x later) ≡ map sessionless (seen y later)
+    → (later : List Event) → map seenApart (seen x later) ≡ map seenApart (seen y later)
 
 -- ---- DEMAND 3
 

@@ -10,7 +10,7 @@ use Rattle.ecam.specs.Laws.{Held as Kept, SameWords}
 use Rattle.machine.specs.State.{registersOf}
 use Rattle.machine.specs.Completions.{Held, storeSize}
 use Rattle.trace.specs.Events.{Event, run, start, seen}
-use Rattle.trace.specs.Claims.{Left, sessionless}
+use Rattle.trace.specs.Claims.{Left, seenApart}
 
 -- bus numbers of a byte, decode and mask of decode's bits alone, and never more than 32 messages queued
 abbrev pub RunKeeps : Type 0
@@ -30,7 +30,7 @@ AlikeBy same =
     (x y : Held) → Left x → Left y
     → x .bridge .settings ≡ y .bridge .settings
     → same (registersOf (x .bridge)) (registersOf (y .bridge))
-    → (later : List Event) → map sessionless (seen x later) ≡ map sessionless (seen y later)
+    → (later : List Event) → map seenApart (seen x later) ≡ map seenApart (seen y later)
 
 -- so it is where the sense is 'equal registers'
 abbrev pub AlikeByWords : Type 0

@@ -10,10 +10,11 @@ use Rattle.machine.specs.State.{freeSlot, registersOf, configSlot, noFigures, n
 use Rattle.machine.specs.Memory.{readRefusal}
 use Rattle.machine.specs.Config.{Access, configRefusal}
 use Rattle.machine.specs.Completions.{storeSize, Held}
-use Rattle.trace.specs.Events.{Call, read, config, release, Event, call, completion, tick, link, step, run, start}
-use Rattle.trace.specs.Claims.{Answered, takes, Untaken, Steady}
+use Rattle.trace.specs.Events.{Call, read, config, release, Event, call, completion, tick, link, step, run, start, seen}
+use Rattle.trace.specs.Claims.{Answered, takes, Untaken, Steady, Left}
 
--- ---- lives of the link, by the events alone
+-- ---- lives of the link, by the events alone. The store is long enough in every claim, so no link event is refused; of one
+-- that is, `LinkCounts` (bridge_laws) says that it does not count
 
 -- whether the link is up after an event, by whether it was before
 abbrev pub upAfter : Bool → Event → Bool
@@ -38,18 +39,19 @@ abbrev pub ups : Bool → List Event → ℕ
 ups up [] = 0
 ups up (e ∷ es) = rises up e + ups (upAfter up e) es
 
--- the life of the link after a list of events from a fresh bridge, whose link is down: 0 before the first
+-- the life of the link after a list of events from a fresh bridge, whose link is down: 0 before the first; with the link down,
+-- that of the life that ended
 abbrev pub life : List Event → ℕ
 life es = ups false es
 
--- the counter has it, 'starting again at zero after its last value'; and the link is as the events say
-pub record Counts (es : List Event) (h : Held) : Type 0 where
+-- the counter is the life mod 2^32, 'starting again at zero after its last value'; and the link is as the events say
+pub record CountsLives (es : List Event) (h : Held) : Type 0 where
   pub link : registersOf (h .bridge) .link ≡ upAtEnd false es
   pub session : h .bridge .core .session ≡ life es % 2 ^ 32
 
 abbrev pub RunCounts : Type 0
 RunCounts =
-    (s : Settings) (store : List ℕ) → storeSize ≤ length store → (es : List Event) → Counts es (run (start s store) es)
+    (s : Settings) (store : List ℕ) → storeSize ≤ length store → (es : List Event) → CountsLives es (run (start s store) es)
 
 -- ---- 'every kept answer'
 
@@ -83,6 +85,16 @@ SessionIsLife =
 abbrev pub FewUps : List Event → List Event → Type 0
 FewUps before between = ups (upAtEnd false before) between < 2 ^ 32
 
+-- THE SAME LIFE, equal numbers: where no down link went up between two accesses, their answers report the same
+abbrev pub SameLifeIsEqual : Type 0
+SameLifeIsEqual =
+    (s : Settings) (store : List ℕ) → storeSize ≤ length store
+    → (before between : List Event) (n m : ℕ)
+    → Reports (start s store) before n
+    → Reports (start s store) (before ++ between) m
+    → ups (upAtEnd false before) between ≡ 0
+    → n ≡ m
+
 -- EQUAL NUMBERS, and fewer than 2^32 ups between: no down link went up between the two accesses
 abbrev pub EqualIsSameLife : Type 0
 EqualIsSameLife =
@@ -93,7 +105,7 @@ EqualIsSameLife =
     → FewUps before between
     → ups (upAtEnd false before) between ≡ 0
 
--- so where both went out, with the link up, the link did not drop between them
+-- so where the link was up at both, as it is where a request is sent, it did not drop between them
 abbrev pub EqualIsNoDrop : Type 0
 EqualIsNoDrop =
     (s : Settings) (store : List ℕ) → storeSize ≤ length store
@@ -110,3 +122,16 @@ EqualIsNoDrop =
 pub record OnlyTaken : Type 0 where
   pub new : (s : Settings) → newBridge s .answer .figures ≡ noFigures
   pub others : (h : Held) (e : Event) → ((k : ℕ) → takes k h e ≡ false) → step h e .out .answer .figures ≡ noFigures
+
+-- ---- without 'apart from their session numbers' the last sentence of demand 3 is false: two bridges with other counters, alike
+-- in all that its premise names, report other numbers
+
+abbrev pub AlikeWithNumbers : Type 0
+AlikeWithNumbers =
+    (x y : Held) → Left x → Left y
+    → x .bridge .settings ≡ y .bridge .settings
+    → registersOf (x .bridge) ≡ registersOf (y .bridge)
+    → (later : List Event) → seen x later ≡ seen y later
+
+abbrev pub NumbersDiffer : Type 0
+NumbersDiffer = AlikeWithNumbers → ⊥

@@ -9,9 +9,19 @@ use Rattle.traffic_text.specs.Numbers.{wordAt}
 abbrev pub isList : List ℕ → Bool
 isList h = eqb (wordAt h 4) 2 || eqb (wordAt h 4) 3
 
--- what follows the header's 184 bytes: a window, in version 3 the first session value too
+-- the bytes of the header in version 1, of a window, and of a first session value
+abbrev pub headerSize : ℕ
+headerSize = 184
+
+abbrev pub windowSize : ℕ
+windowSize = 24
+
+abbrev pub sessionSize : ℕ
+sessionSize = 4
+
+-- what follows them: in version 2 a window, in version 3 the first session value too
 abbrev pub moreSize : List ℕ → ℕ
-moreSize h = cond (eqb (wordAt h 4) 2) 24 (cond (eqb (wordAt h 4) 3) 28 0)
+moreSize h = cond (eqb (wordAt h 4) 2) windowSize (cond (eqb (wordAt h 4) 3) (windowSize + sessionSize) 0)
 
 abbrev pub storeSize : List ℕ → ℕ
 storeSize h = wordAt h 180
@@ -22,4 +32,4 @@ isRight h = eqb (wordAt h 0) 0x41504254 && (eqb (wordAt h 4) 1 || isList h) && l
 
 -- where the first record begins
 abbrev pub startOf : List ℕ → ℕ
-startOf h = 184 + moreSize h
+startOf h = headerSize + moreSize h

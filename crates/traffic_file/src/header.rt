@@ -7,6 +7,7 @@ use streams::Fetched;
 use traffic_text::input::fetch;
 use traffic_text::input::word_at;
 ghost use mathlib.Core.Path.{_≡_};
+ghost use Prim.Native.Nat.{_≤_};
 ghost use Rattle.traffic_file.specs.Header.{isList, moreSize, storeSize, isRight, startOf};
 
 // The bytes of the header, of the window after it, and of all that may follow it.
@@ -26,7 +27,7 @@ pub fn is_list(h: &[u8]) -> bool
 
 // The bytes that follow the header.
 fn more_size(h: &[u8]) -> usize
-    ensures { λ r. ⌜ r ≡ moreSize (now (h .entry)) ⌝ }
+    ensures { λ r. ⌜ (r ≡ moreSize (now (h .entry))) × (r ≤ 28) ⌝ }
 {
     let version = word_at(h, 4);
     if version == 2 {
@@ -49,14 +50,8 @@ pub fn store_size(h: &[u8]) -> usize
 pub fn start(h: &[u8]) -> Place
     ensures { λ r. ⌜ (r .events ≡ 0) × (r .at ≡ startOf (now (h .entry))) × (r .ticks ≡ 0) ⌝ }
 {
-    let version = word_at(h, 4);
-    if version == 2 {
-        return first_place(208);
-    }
-    if version == 3 {
-        return first_place(212);
-    }
-    first_place(184)
+    let size = HEADER + more_size(h);
+    first_place(size as u64)
 }
 
 // The magic, the version and the length of the store.

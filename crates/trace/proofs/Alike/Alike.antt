@@ -7,7 +7,7 @@ use Rattle.machine.specs.State.{slotState, tagCount, slotCount, registersOf}
 use Rattle.machine.specs.Completions.{Held}
 use Rattle.trace.specs.Events.{Event, seen}
 use Rattle.trace.specs.Sound.{Sound}
-use Rattle.trace.specs.Claims.{Left, sessionless, Alike}
+use Rattle.trace.specs.Claims.{Left, seenApart, Alike}
 use Rattle.trace.proofs.Soundness.Fine.{state-below, state-config}
 use Rattle.trace.proofs.Soundness.Sound.{sound-step, run-sound}
 use Rattle.trace.proofs.Alike.Twin.{unused}
@@ -50,7 +50,7 @@ left-pair {x} {y} p q s e =
 
 -- ---- and stay alike
 
-seen-alike : {x y : Held} → Sound x → Pair x y → (later : List Event) → map sessionless (seen x later) ≡ map sessionless (seen y later)
+seen-alike : {x y : Held} → Sound x → Pair x y → (later : List Event) → map seenApart (seen x later) ≡ map seenApart (seen y later)
 seen-alike v p [] = refl
 seen-alike {x} {y} v p (e ∷ es) =
     let n = next v p e in

@@ -26,7 +26,7 @@ use Rattle.bridge_laws.specs.MemoryLaws.{Tables}
 use Rattle.bridge_laws.specs.Rows.{pendingTag, notedSlot, faultedSlot, finishedSlot, fewerSlot, closedSlot, lostSlot, droppedSlot, freedCore, takenCore}
 use Rattle.bridge_laws.specs.Effects.{Acts}
 use Rattle.bridge_laws.proofs.Parts.{same-missing, same-sent, same-owner, same-place, same-next, same-kind}
-use Rattle.trace.specs.Claims.{withoutSession}
+use Rattle.trace.specs.Claims.{figuresApart}
 use Rattle.bridge_laws.proofs.Cores.{Registered, raised-core, refusal-core, local-core, raised-same, refusal-same, local-same}
 
 -- ---- the relation
@@ -62,7 +62,7 @@ bareSlot s = record { state = s .state; size = s .size; pieces = s .pieces; faul
 
 abbrev pub bareConfig : ConfigSlot → ConfigSlot
 bareConfig c =
-    record { state = c .state; write = c .write; response = c .response; word = c .word; figures = withoutSession (c .figures) }
+    record { state = c .state; write = c .write; response = c .response; word = c .word; figures = figuresApart (c .figures) }
 
 abbrev pub SlotsLike : Slot → Slot → Type 0
 SlotsLike r s = Like (λ (x : Slot). x .state) (bareSlot r) (bareSlot s)

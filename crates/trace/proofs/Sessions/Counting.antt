@@ -93,7 +93,7 @@ turns h e g x (idle r a l) = quiet-call (record { link = l; session = refl })
 turns h e g x (missed r f l) = quiet-completion (record { link = l; session = refl })
 turns h e g x (reads {q = q} {room = room} f) =
     let k = accepted-read-keeps (h .bridge) q room f in
-    quiet-call (record { link = ap (λ (r : Registers). r .link) (k .registers); session = k .session })
+    quiet-call (record { link = ap (λ (r : Registers). r .link) (k .registers); session = k .counter })
 turns h e g x (locals {a = a} w f r) = let c = local-core (h .bridge .core) a w in quiet-call (record { link = c .link; session = c .session })
 turns h e g x (routes {a = a} {room = room} f o) =
     quiet-call
@@ -150,7 +150,7 @@ pub run-counts : RunCounts
 unfolding fresh
 run-counts s store long es =
     let f = new-is-fresh s in
-    let q = run-from es (start s store) false 0 (run-sound s store long []) (record { link = ap (λ (r : Registers). r .link) (f .registers); session = f .session ∙ omega arith }) in
+    let q = run-from es (start s store) false 0 (run-sound s store long []) (record { link = ap (λ (r : Registers). r .link) (f .registers); session = f .counter ∙ omega arith }) in
     record { link = q .link; session = q .session ∙ omega arith }
 
 -- ---- a list in two parts

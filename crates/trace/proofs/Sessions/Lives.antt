@@ -1,5 +1,5 @@
 -- An answer's session number is that of the life of the link in which its access was accepted.
-use Prim.Native.Nat.{ℕ}
+use Prim.Native.Nat.{ℕ, _%_, _^_}
 use mathlib.Core.Path.{_≡_, refl, sym, ap, _∙_}
 use mathlib.Core.Logic.{by-cases}
 use mathlib.Core.List.{List, [], _∷_, _++_}
@@ -7,13 +7,14 @@ use mathlib.Core.Bool.{true, false}
 use native.Mathlib.Omega.{arith}
 use native.Mathlib.Decide.{decLt}
 use lib.ListN.{length}
+use Rattle.parts.specs.declared.Figures.{Figures}
 use Rattle.machine.specs.State.{slotCount}
 use Rattle.machine.specs.Completions.{Held}
 use Rattle.machine.proofs.Judging.{never}
 use Rattle.bridge_laws.proofs.SessionLaws.{release-reports}
 use Rattle.trace.specs.Events.{Event, call, completion, tick, link, step, run, start}
 use Rattle.trace.specs.Claims.{Answered, Steady}
-use Rattle.trace.specs.Sessions.{upAtEnd, ups, reported, SessionIsLife, EqualIsSameLife, EqualIsNoDrop}
+use Rattle.trace.specs.Sessions.{upAtEnd, ups, life, reported, SessionIsLife, SameLifeIsEqual, EqualIsSameLife, EqualIsNoDrop}
 use Rattle.trace.proofs.Soundness.Sound.{sound-step, run-sound}
 use Rattle.trace.proofs.Sessions.Counting.{run-counts, ups-append, end-append}
 use Rattle.trace.proofs.Sessions.Kept.{Numbered, config-slot, accepted-numbered, run-numbered}
@@ -23,8 +24,8 @@ use Rattle.trace.proofs.Sessions.Kept.{Numbered, config-slot, accepted-
 reports : (h : Held) (k n : ℕ) → Answered k h → Numbered k n (h .bridge) → reported h k ≡ n
 reports h k n a p =
     let r = release-reports (h .bridge) (length (h .store)) k a in
-    by-cases (decLt k slotCount) (λ l. r .0 l ∙ p .slot l .number)
-    (λ l. let z = config-slot (h .bridge) k (length (h .store)) a (omega arith) in r .1 z ∙ p .config z .number)
+    by-cases (decLt k slotCount) (λ l. ap (λ (f : Figures). f .session) (r .0 l) ∙ p .slot l .number)
+    (λ l. let z = config-slot (h .bridge) k (length (h .store)) a (omega arith) in ap (λ (f : Figures). f .session) (r .1 z) ∙ p .config z .number)
 
 -- ---- THE LAWS
 
@@ -36,6 +37,14 @@ session-is-life s store long before n r =
     let p = accepted-numbered h (r .access) (r .slot) g (r .kept) in
     let q = run-numbered (r .later) y (sound-step h (call (r .access)) g) (r .untaken) p in
     sym (r .number) ∙ (reports (run y (r .later)) (r .slot) (h .bridge .core .session) (r .answered) q ∙ run-counts s store long before .session)
+
+pub same-life-is-equal : SameLifeIsEqual
+same-life-is-equal s store long before between n m r q none =
+    let a = session-is-life s store long before n r in
+    let b = session-is-life s store long (before ++ between) m q in
+    let c = ups-append false before between in
+    let e : life (before ++ between) ≡ life before = omega arith in
+    a ∙ (ap (λ (x : ℕ). x % 2 ^ 32) (sym e) ∙ sym b)
 
 pub equal-is-same-life : EqualIsSameLife
 equal-is-same-life s store long before between n r q few =
