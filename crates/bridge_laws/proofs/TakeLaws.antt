@@ -14,10 +14,10 @@ use Rattle.refusals.specs.declared.Response.the-variants.{Nothing, Okay, Slverr
 use Rattle.machine.specs.Bridge.{Bridge}
 use Rattle.parts.specs.Cores.{Core}
 use Rattle.parts.specs.declared.Answer.{Answer}
-use Rattle.machine.specs.State.{Answered, freeConfig, coreIn, responseOf, refusalChange, refusal, taken, answered, refused}
+use Rattle.machine.specs.State.{Answered, slotCount, freeConfig, coreIn, responseOf, refusalChange, refusal, taken, answered, refused}
 use Rattle.machine.specs.Completions.{storeSize, sizeOf}
 use Rattle.machine.specs.Take.{stateIn, stateOf, takeNumber, takeRefusal, looked, slotFreed, releaseStep}
-use Rattle.bridge_laws.specs.ConfigLaws.{ResponseCoded, ReleaseNumber, TakeRefused, PartOf, LookIsPart, LookAtSlot, LookAtConfig, Released, ReleaseFrees, ReleaseOnce}
+use Rattle.bridge_laws.specs.ConfigLaws.{ResponseCoded, ReleaseResponds, ReleaseNumber, TakeRefused, PartOf, LookIsPart, LookAtSlot, LookAtConfig, Released, ReleaseFrees, ReleaseOnce}
 use Rattle.bridge_laws.proofs.Rows.{either, set-zero}
 use Rattle.bridge_laws.proofs.Verbs.{freed-read, freed-config}
 
@@ -75,6 +75,10 @@ response-coded Slverr l = refl
 response-coded Decerr l = refl
 response-coded Nothing l = absurd (omega arith)
 response-coded Wait l = absurd (omega arith)
+
+pub release-responds : ReleaseResponds
+unfolding releaseStep taken
+release-responds b room k e = (λ l. rw (eq-eqb _ _ e, lt-ltb k slotCount l), λ z. rw (eq-eqb _ _ e, le-ltb k slotCount (omega arith)))
 
 -- ---- the look
 

@@ -20,7 +20,7 @@ use Rattle.refusals.specs.declared.Response.{Response}
 use Rattle.refusals.specs.Responses.{codeOf}
 use Rattle.parts.specs.Cores.{Core}
 use Rattle.machine.specs.Bridge.{Bridge}
-use Rattle.machine.specs.State.{tagCount, configSlot, configRead, configWrite, withRegisters, withConfig, freeConfig, openConfig, doneConfig, figuresNow, coreIn, putState, tagAt, slotAt, sessionOf, okay, responseOf, refusal, answered, newBridge, registersOf, lineOf}
+use Rattle.machine.specs.State.{tagCount, configSlot, configRead, configWrite, withRegisters, withConfig, freeConfig, openConfig, doneConfig, figuresNow, coreIn, putState, tagAt, slotAt, sessionOf, failureOf, slotCount, okay, responseOf, refusal, answered, newBridge, registersOf, lineOf}
 use Rattle.machine.specs.contracts.Passing.{Passed}
 use Rattle.machine.specs.Config.{Access, routeOf, goesOut, configNumber, configRefusal, routedRequest, payloadOf, configBytes, configStep, configArea}
 use Rattle.machine.specs.Completions.{sizeOf}
@@ -171,6 +171,13 @@ TakeRefused = (b : Bridge) (store : List ℕ) (k : ℕ) → (takeRefusal b (leng
 -- the number by which a slot keeps a response gives that response back, as the release does
 abbrev pub ResponseCoded : Type 0
 ResponseCoded = (r : Response) → codeOf r < 4 → responseOf (codeOf r) ≡ r
+
+-- an accepted release gives the response that the slot keeps
+abbrev pub ReleaseResponds : Type 0
+ReleaseResponds =
+    (b : Bridge) (room k : ℕ) → takeRefusal b room k ≡ 0
+    → (k < slotCount → releaseStep b room k .answer .response ≡ responseOf (failureOf b k))
+    × (k ≡ configSlot → releaseStep b room k .answer .response ≡ responseOf (b .core .config .response))
 
 -- the look's bytes stand in the store
 pub record PartOf (part store : List ℕ) : Type 0 where

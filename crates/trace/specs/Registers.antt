@@ -9,7 +9,7 @@ use Rattle.ecam.specs.Registers.{Registers}
 use Rattle.ecam.specs.Laws.{Held as Kept, SameWords}
 use Rattle.machine.specs.State.{registersOf}
 use Rattle.machine.specs.Completions.{Held, storeSize}
-use Rattle.trace.specs.Events.{Event, run, start, seen}
+use Rattle.trace.specs.Events.{Event, run, start, Seen, seen}
 use Rattle.trace.specs.Claims.{Left, seenApart}
 
 -- bus numbers of a byte, decode and mask of decode's bits alone, and never more than 32 messages queued
@@ -24,18 +24,18 @@ pub record EqualRegisters (r q : Registers) : Type 0 where
   pub queue : r .errors ≡ q .errors
 
 -- two bridges left with the link down, every answer taken, equal settings and registers that are the same in some sense answer
--- all later events alike, and the registers stay equal
-abbrev pub AlikeBy : (Registers → Registers → Type 0) → Type 0
-AlikeBy same =
+-- all later events alike, by what is compared of each, and the registers stay equal
+abbrev pub AlikeBy : (Registers → Registers → Type 0) → (Seen → Seen) → Type 0
+AlikeBy same compared =
     (x y : Held) → Left x → Left y
     → x .bridge .settings ≡ y .bridge .settings
     → same (registersOf (x .bridge)) (registersOf (y .bridge))
-    → (later : List Event) → map seenApart (seen x later) ≡ map seenApart (seen y later)
+    → (later : List Event) → map compared (seen x later) ≡ map compared (seen y later)
 
 -- so it is where the sense is 'equal registers'
 abbrev pub AlikeByWords : Type 0
-AlikeByWords = AlikeBy EqualRegisters
+AlikeByWords = AlikeBy EqualRegisters seenApart
 
 -- and not where it is the words alone: two queues may differ in their second entry
 abbrev pub QueueIsNeeded : Type 0
-QueueIsNeeded = AlikeBy SameWords → ⊥
+QueueIsNeeded = AlikeBy SameWords seenApart → ⊥

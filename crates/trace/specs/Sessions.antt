@@ -10,8 +10,9 @@ use Rattle.machine.specs.State.{freeSlot, registersOf, configSlot, noFigures, n
 use Rattle.machine.specs.Memory.{readRefusal}
 use Rattle.machine.specs.Config.{Access, configRefusal}
 use Rattle.machine.specs.Completions.{storeSize, Held}
-use Rattle.trace.specs.Events.{Call, read, config, release, Event, call, completion, tick, link, step, run, start, seen}
-use Rattle.trace.specs.Claims.{Answered, takes, Untaken, Steady, Left}
+use Rattle.trace.specs.Events.{Call, read, config, release, Event, call, completion, tick, link, step, run, start}
+use Rattle.trace.specs.Claims.{Answered, takes, Untaken, Steady}
+use Rattle.trace.specs.Registers.{AlikeBy}
 
 -- ---- lives of the link, by the events alone. The store is long enough in every claim, so no link event is refused; of one
 -- that is, `LinkCounts` (bridge_laws) says that it does not count
@@ -126,12 +127,5 @@ pub record OnlyTaken : Type 0 where
 -- ---- without 'apart from their session numbers' the last sentence of demand 3 is false: two bridges with other counters, alike
 -- in all that its premise names, report other numbers
 
-abbrev pub AlikeWithNumbers : Type 0
-AlikeWithNumbers =
-    (x y : Held) → Left x → Left y
-    → x .bridge .settings ≡ y .bridge .settings
-    → registersOf (x .bridge) ≡ registersOf (y .bridge)
-    → (later : List Event) → seen x later ≡ seen y later
-
 abbrev pub NumbersDiffer : Type 0
-NumbersDiffer = AlikeWithNumbers → ⊥
+NumbersDiffer = AlikeBy _≡_ (λ x. x) → ⊥

@@ -7,7 +7,7 @@ use native.Mathlib.Omega.{arith}
 use native.Mathlib.Decide.{ℕ-discrete}
 use lib.ListN.{length, getD}
 use lib.Dec.{eqb}
-use borrow.Author.Tests.{eq-eqb, ne-eqb, lt-ltb}
+use borrow.Author.Tests.{eq-eqb, ne-eqb}
 use Rattle.burst.specs.declared.Burst.{Burst}
 use Rattle.burst.specs.Bursts.{lengthOf}
 use Rattle.burst.specs.Pieces.{addresses}
@@ -15,13 +15,13 @@ use Rattle.burst.proofs.Pieces.{accepted-covers}
 use Rattle.burst.proofs.Tiling.{piece-not-empty}
 use Rattle.refusals.specs.declared.Response.{Response}
 use Rattle.refusals.specs.declared.Response.the-variants.{Okay}
-use Rattle.machine.specs.State.{Bridge, tagAt, freeSlot, responseOf, taken as takenAnswer}
+use Rattle.machine.specs.State.{Bridge, tagAt, freeSlot, responseOf}
 use Rattle.machine.specs.Memory.{pcieOf, pieceOf, readRefusal, readBridge, readStep}
 use Rattle.machine.specs.Completions.{Held, held}
-use Rattle.machine.specs.Take.{stateOf, takeRefusal, looked, releaseStep}
+use Rattle.machine.specs.Take.{stateOf, looked}
 use Rattle.machine.proofs.Refusals.{read-ok}
 use Rattle.bridge_laws.specs.MemoryLaws.{tagOf}
-use Rattle.bridge_laws.proofs.TakeLaws.{passed, look-at-slot}
+use Rattle.bridge_laws.proofs.TakeLaws.{passed, look-at-slot, release-responds}
 use Rattle.bridge_laws.proofs.Parts.{same-missing, same-owner, same-place, same-state, same-size, same-fault, same-cause}
 use Rattle.trace.specs.Events.{Event, call, read, step, run, start}
 use Rattle.trace.specs.FarSide.{Ask, askOf, bytesSent, Answers, Wire, sending, wireAfter, AllAnswered}
@@ -107,10 +107,10 @@ module _ (sent : ℕ → List (List ℕ)) (h : Held) (q : Burst) (room : ℕ) (s
 
 -- an OKAY answer has no failure
 okay-cause : (h : Held) (k : ℕ) → k < 8 → AnsweredOkay k h → getD (h .bridge .cause) k 0 ≡ 0
-unfolding releaseStep takenAnswer responseOf
+unfolding responseOf
 okay-cause h k small a =
     let n = getD (h .bridge .cause) k 0 in
-    let e : responseOf n ≡ Okay = rw (eq-eqb (takeRefusal (h .bridge) (length (h .store)) k) 0 (a .answered), lt-ltb k 8 small) at (a .okay) in
+    let e : responseOf n ≡ Okay = sym (release-responds (h .bridge) (length (h .store)) k (a .answered) .0 small) ∙ a .okay in
     by-cases (ℕ-discrete n 0) (λ z. z) (λ d. either (λ (x : Response). x ≡ Okay → n ≡ 0) (eqb n 3) (λ g. no-path (cc)) (λ g. no-path (cc)) (rw (ne-eqb n 0 d) at e))
 
 module _ (r : Read) (h : Held) (s : Sound h) (a : AnsweredOkay (r .slot) h) where

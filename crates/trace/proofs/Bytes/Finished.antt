@@ -9,7 +9,7 @@ use native.Mathlib.Decide.{decLt}
 use lib.ListN.{length, getD}
 use lib.Seq.{ext-getD}
 use lib.Dec.{ltb}
-use borrow.Author.Tests.{eq-eqb, ne-eqb, lt-ltb, le-ltb, ltb-true, ltb-false}
+use borrow.Author.Tests.{eq-eqb, lt-ltb, le-ltb, ltb-true, ltb-false}
 use Rattle.parts.specs.Cores.{Core}
 use Rattle.parts.specs.declared.ConfigSlot.{ConfigSlot}
 use Rattle.machine.specs.State.{Bridge, Slot, slotAt, missingOf, ownerOf, placeOf, sizeOf, responseOf, taken}
@@ -43,12 +43,7 @@ state-config b k e = rw (eq-eqb k 8 e)
 
 -- a finished slot is one of the nine
 in-range : (b : Bridge) (k : ℕ) → stateOf b k ≡ 2 → k ≤ 8
-unfolding stateIn
-in-range b k e =
-    by-cases (decLt 8 k) (λ l.
-    let n : k ≢ 8 = λ z. omega arith in
-    let z : _≡_ {A = ℕ} 0 2 = rw (ne-eqb k 8 n, le-ltb k 8 (omega arith)) at e in
-    absurd (omega arith)) (λ l. omega arith)
+in-range b k e = take.in-range (b .core .config .state) (b .state) k e
 
 finished-of : (k : ℕ) (h : Held) → Answered k h → stateOf (h .bridge) k ≡ 2
 finished-of k h a = take.passed (length (h .store)) (stateOf (h .bridge) k) a .finished

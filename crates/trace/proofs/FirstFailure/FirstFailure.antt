@@ -15,13 +15,14 @@ use Rattle.tlp.specs.declared.completion.CompletionRead.{CompletionRead}
 use Rattle.tlp.specs.declared.completion.CompletionRead.the-variants.{Header, Malformed}
 use Rattle.burst.specs.declared.Burst.{Burst}
 use Rattle.verdict.specs.declared.Verdict.the-variants.{Unexpected}
-use Rattle.machine.specs.State.{Bridge, Slot, slotAt, tagCount, slotCount, missingOf, ownerOf, placeOf, isOpen, withTicks, coreIn, freeSlot, responseOf, taken}
+use Rattle.machine.specs.State.{Bridge, Slot, slotAt, tagCount, slotCount, missingOf, ownerOf, placeOf, isOpen, withTicks, coreIn, freeSlot, responseOf}
 use Rattle.machine.specs.Memory.{readBridge, readRefusal, readStep}
 use Rattle.machine.specs.Config.{routeOf}
 use Rattle.machine.specs.Verdict.{memoryVerdict}
 use Rattle.machine.specs.Completions.{Held, held, nextAddress, verdictOf, completionOf}
 use Rattle.machine.specs.Ticks.{nextTick}
-use Rattle.machine.specs.Take.{takeRefusal, slotFreed, releaseStep}
+use Rattle.machine.specs.Take.{takeRefusal, slotFreed}
+use Rattle.bridge_laws.proofs.TakeLaws.{release-responds}
 use Rattle.machine.proofs.Judging.{never}
 use Rattle.machine.proofs.Refusals.{read-ok}
 use Rattle.machine.proofs.Configs.{passed}
@@ -29,7 +30,7 @@ use Rattle.bridge_laws.specs.MemoryLaws.{Tables}
 use Rattle.bridge_laws.proofs.Effects.{memory-serves, config-serves, routed-acts, released-acts}
 use Rattle.trace.specs.Events as event
 use Rattle.trace.specs.Events.{Event, step, run, start}
-use Rattle.trace.specs.Claims.{Answered, takes, Untaken, isDown, Steady}
+use Rattle.trace.specs.Claims.{takes, Untaken, isDown, Steady}
 use Rattle.trace.specs.Sound.{Sound}
 use Rattle.trace.specs.FirstFailure.{Failure, firstFailed, responseBy, completionFails, failsBy, failures, FirstFailure, FirstFailureGives}
 use Rattle.trace.proofs.Soundness.View.{Move, idle, missed, reads, locals, routes, memories, configs, ticks, drops, links, releases, moves}
@@ -119,13 +120,9 @@ first-failure s store long before q room later e untaken steady =
     let r = run-keeps l (q .start .0) k y later (sound-step h (event.call (event.read q room)) v) untaken steady none w in
     responded l (q .start .0) k (firstFailed none (failures l (q .start .0) k y later)) (slotAt (run y later .bridge) k) (r .agrees)
 
-release-gives : (h : Held) (k : ℕ) → k < slotCount → Answered k h → releaseStep (h .bridge) (length (h .store)) k .answer .response ≡ responseOf (getD (h .bridge .cause) k 0)
-unfolding releaseStep taken
-release-gives h k l a = rw (eq-eqb _ _ a, lt-ltb _ _ l)
-
 pub first-failure-gives : FirstFailureGives
 first-failure-gives s store long before q room later e untaken steady answered =
     let h = run (start s store) before in
     let x = run (step h (event.call (event.read q room)) .after) later in
-    release-gives x (freeSlot (h .bridge)) (read-ok (h .bridge) q room e .slot) answered
+    release-responds (x .bridge) (length (x .store)) (freeSlot (h .bridge)) answered .0 (read-ok (h .bridge) q room e .slot)
     ∙ ap responseOf (first-failure s store long before q room later e untaken steady)

@@ -7,16 +7,17 @@ use mathlib.Core.Bool.{Bool, true, false}
 use native.Mathlib.Omega.{arith}
 use native.Mathlib.Decide.{decLt}
 use lib.Dec.{eqb}
-use borrow.Author.Tests.{eq-eqb, lt-ltb}
+use lib.ListN.{length}
 use Rattle.address.specs.declared.Settings.{Settings}
 use Rattle.burst.specs.declared.Burst.{Burst}
 use Rattle.parts.specs.Cores.{Core}
 use Rattle.parts.specs.declared.ConfigSlot.{ConfigSlot}
-use Rattle.machine.specs.State.{Bridge, failureOf, freeSlot, configWrite, responseOf, taken}
+use Rattle.machine.specs.State.{Bridge, failureOf, freeSlot, configWrite, responseOf}
 use Rattle.machine.specs.Memory.{piecesOf, pieceOf, readRefusal, readBridge}
 use Rattle.machine.specs.Config.{Access, routeOf, goesOut, configRefusal, localBridge, routedBridge, wordPending}
 use Rattle.machine.specs.Completions.{Held, held}
-use Rattle.machine.specs.Take.{stateOf, releaseStep}
+use Rattle.machine.specs.Take.{stateOf}
+use Rattle.bridge_laws.proofs.TakeLaws.{release-responds}
 use Rattle.machine.proofs.Judging.{never}
 use Rattle.machine.proofs.Refusals.{read-ok}
 use Rattle.bridge_laws.proofs.Parts.{same-missing, same-kind, same-cause}
@@ -38,12 +39,16 @@ use Rattle.trace.proofs.Okay.Due.{Clean, On, move-on}
 
 -- a finished access with the right answer so far is OKAY
 read-answer : (k : ℕ) → k < 8 → (h : Held) → Sound h → stateOf (h .bridge) k ≡ 2 → failureOf (h .bridge) k ≡ 0 → AnsweredOkay k h
-unfolding releaseStep taken responseOf
-read-answer k l h v s c = let a = finished-answered k h v s in record { answered = a; okay = rw (eq-eqb _ _ a, lt-ltb _ _ l, c) }
+unfolding responseOf
+read-answer k l h v s c =
+    let a = finished-answered k h v s in
+    record { answered = a; okay = release-responds (h .bridge) (length (h .store)) k a .0 l ∙ ap responseOf c }
 
 config-answer : (h : Held) → Sound h → stateOf (h .bridge) 8 ≡ 2 → h .bridge .core .config .response ≡ 0 → AnsweredOkay 8 h
-unfolding releaseStep taken responseOf
-config-answer h v s c = let a = finished-answered 8 h v s in record { answered = a; okay = rw (eq-eqb _ _ a, c) }
+unfolding responseOf
+config-answer h v s c =
+    let a = finished-answered 8 h v s in
+    record { answered = a; okay = release-responds (h .bridge) (length (h .store)) 8 a .1 refl ∙ ap responseOf c }
 
 -- ---- along a list with fewer ticks than the limit, in which the link stays
 
