@@ -17,7 +17,7 @@ second/target/release/demand3 0 199
 rm -rf target
 rt ci &
 gate=$!
-built() { [ "$(cat target/log/traffic.res 2>/dev/null)" = built ]; }
+built() { [ "$(cat target/log/traffic.res 2>/dev/null)" = built ] && [ -e target/stamp/window_bench ]; }
 until built || ! kill -0 "$gate" 2>/dev/null; do sleep 1; done
 
 # The same traffic, right and damaged, on the second program and on the proved bridge; and wrong machines, which take the
@@ -32,13 +32,15 @@ else
         said=$(second/target/release/failing $trial 2>&1) || { same=0 found="failing $trial: $said"; }
     done
     wrong=$(crates/trace/wrong.sh 2>&1) || { same=0 found="wrong machines: $wrong"; }
+    # What the benchmark times answers as plain Rust does, on right tables and on any others.
+    timed=$(bench/run.sh compare 2>&1) || { same=0 found="bench: $timed"; }
 fi
 status=0
 wait "$gate" || status=$?
 
 # A difference is printed with its first event, and its file is made smaller.
 if [ "$same" -eq 0 ]; then
-    echo "the player differs or takes a failure in silence, or demand 3 does not refuse a wrong machine: $found"
+    echo "the player differs or takes a failure in silence, demand 3 does not refuse a wrong machine, or a timed choice differs: $found"
     for f in *.traffic; do
         second/target/release/shrink second/target/release/play target/bin/traffic "$f" || true
     done

@@ -1,3 +1,4 @@
 pub mod Steps
+pub mod Counted
 pub mod Laws
 pub mod Examples

@@ -1,7 +1,8 @@
 // Addresses of the two sides, the windows between them, and the rules on settings.
 ghost use mathlib.Core.Path.{_≡_};
-ghost use Prim.Native.Nat.{ℕ, _≤_, _<_, _-_, min};
+ghost use Prim.Native.Nat.{ℕ, _≤_, _<_, _-_};
 ghost use Rattle.address.specs.Windows.{holds, windowOf, Placed, translated};
+ghost use Rattle.address.specs.contracts.Entries.{entryOf};
 ghost use Rattle.address.specs.Settings.{powerOfTwo, each, windowRight, rightAt, apart, apartAt, windowsRight, settingsNumber, exampleSettings};
 
 // An address on the AXI side.
@@ -44,23 +45,30 @@ pub fn in_window(base: u64, size: u64, a: AxiAddress) -> bool
     a.0 - base < size
 }
 
-fn six_at_most(n: u32) -> usize
-    ensures { λ r. ⌜ (r ≡ min n 6) × (r ≤ 6) ⌝ }
+// The first of the six entries that holds an address, in use or not; 6 where none does. The walk has one length for every
+// table, so that the compiler lays it out whole: no turn tests the count, and a table by value is read where it stands.
+fn entry_of(base: &[u64; 6], size: &[u64; 6], a: AxiAddress) -> u32
+    ensures { λ r. ⌜ r ≡ entryOf (windowOf 6 (now (base .entry)) (now (size .entry)) a) ⌝ }
 {
-    if n < 6 { n as usize } else { 6 }
+    let mut i = 0;
+    while i < 6 {
+        if in_window(base[i], size[i], a) {
+            return i as u32;
+        }
+        i += 1;
+    }
+    6
 }
 
 // The first window that holds an address.
 pub fn window_of(count: u32, base: &[u64; 6], size: &[u64; 6], a: AxiAddress) -> Found
     ensures { λ r. ⌜ (r ≡ windowOf count (now (base .entry)) (now (size .entry)) a) × Placed r ⌝ }
 {
-    let n = six_at_most(count);
-    let mut i = 0;
-    while i < n {
-        if in_window(base[i], size[i], a) {
-            return Found::At(i as u32);
+    let i = entry_of(base, size, a);
+    if i < 6 {
+        if i < count {
+            return Found::At(i);
         }
-        i += 1;
     }
     Found::Nothing
 }

@@ -42,6 +42,21 @@ pub struct Shift {
     pub target: u64,
 }
 
+// One of six numbers. By cases and not by an index, so that a table by value is read where it stands.
+fn one_of(xs: [u64; 6], i: u32) -> u64
+    requires { ⌜ i < 6 ⌝ }
+    ensures { λ r. ⌜ r ≡ getD xs i 0 ⌝ }
+{
+    match i {
+        0 => xs[0],
+        1 => xs[1],
+        2 => xs[2],
+        3 => xs[3],
+        4 => xs[4],
+        _ => xs[5],
+    }
+}
+
 // That of the window that holds an address.
 pub fn shift_of(w: Windows, a: AxiAddress) -> Shift
     ensures { λ r. ⌜ (r .base ≡ getD (w .base) (indexOf (windowOf (w .count) (w .base) (w .size) a)) 0) × (r .target ≡ getD (w .target) (indexOf (windowOf (w .count) (w .base) (w .size) a)) 0) ⌝ }
@@ -50,13 +65,10 @@ pub fn shift_of(w: Windows, a: AxiAddress) -> Shift
     let target = w.target;
     let f = address::find_window(w, a);
     match f {
-        Found::At(i) => {
-            let k = index(i);
-            Shift {
-                base: base[k],
-                target: target[k],
-            }
-        }
+        Found::At(i) => Shift {
+            base: one_of(base, i),
+            target: one_of(target, i),
+        },
         Found::Nothing => Shift {
             base: base[0],
             target: target[0],
