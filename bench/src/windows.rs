@@ -14,11 +14,11 @@ const ROUNDS: usize = 31;
 /// One way to make every choice of a list of addresses; the sum of its answers.
 type Way = fn(&Table, &[u64]) -> u64;
 
-fn one_by_one(t: &Table, addresses: &[u64], choice: impl Fn(&Table, u64) -> u64) -> u64 {
-    addresses.iter().fold(0, |sum: u64, &a| sum.wrapping_add(choice(t, a)))
+fn one_by_one(t: &Table, addresses: &[u64], f: impl Fn(&Table, u64) -> u64) -> u64 {
+    addresses.iter().fold(0, |sum: u64, &a| sum.wrapping_add(f(t, a)))
 }
 
-/// The ways that are compared: before, now, plain Rust over the array of six, plain Rust over those in use.
+/// Before, now, plain Rust over all six, plain Rust over those in use.
 struct Trial {
     title: &'static str,
     ways: [Way; 4],
@@ -26,7 +26,7 @@ struct Trial {
 
 const TRIALS: [Trial; 3] = [
     Trial {
-        title: "choices in a loop: window_of",
+        title: "the choice in a loop: window_of",
         ways: [proved::choices_former, proved::choices, plain::choices_of_six, plain::choices],
     },
     Trial {
@@ -34,12 +34,12 @@ const TRIALS: [Trial; 3] = [
         ways: [
             |t, a| one_by_one(t, a, proved::choice_former),
             |t, a| one_by_one(t, a, proved::choice),
-            |t, a| one_by_one(t, a, plain::called_of_six),
-            |t, a| one_by_one(t, a, plain::called),
+            |t, a| one_by_one(t, a, plain::choice_of_six),
+            |t, a| one_by_one(t, a, plain::choice),
         ],
     },
     Trial {
-        title: "choices of an access, in a loop: no_window, shift_of, translate",
+        title: "as an access makes it, in a loop: no_window, shift_of, translate (Rust: one choice)",
         ways: [proved::accesses_former, proved::accesses, plain::accesses_of_six, plain::accesses],
     },
 ];
@@ -55,30 +55,45 @@ fn six_windows() -> Table {
     Table::new(6, windows)
 }
 
-/// Every way answers alike, address by address, on tables that keep the rules and on any others.
+/// Right windows: powers of two from 2^12 to 2^40, multiples of the size, apart, in any order.
+fn right_windows(random: &mut Random) -> [Window; 6] {
+    let mut places = [0, 1, 2, 3, 4, 5];
+    for i in (1..6).rev() {
+        places.swap(i, random.below(i as u64 + 1) as usize);
+    }
+    places.map(|i: u64| {
+        let size = 1 << (12 + random.below(29));
+        Window { base: (i << 41) + size * random.below((1 << 41) / size), size, target: size * random.below(1 << 20) }
+    })
+}
+
+/// Every way that looks at the count answers alike, address by address, on right tables and on any others.
 fn compare(random: &mut Random) -> u64 {
     let mut compared = 0;
     for turn in 0..200_000u64 {
         let shift = random.below(64);
-        let mut windows = [Window::default(); 6];
-        for w in windows.iter_mut() {
-            *w = match turn % 3 {
-                0 => Window { base: random.next(), size: random.next(), target: random.next() },
-                1 => Window { base: random.next() >> shift, size: random.next() >> shift, target: 0 },
+        let mut windows = right_windows(random);
+        if turn % 4 > 0 {
+            windows = windows.map(|_| match turn % 4 {
+                1 => Window { base: random.next(), size: random.next(), target: random.next() },
+                2 => Window { base: random.next() >> shift, size: random.next() >> shift, target: 0 },
                 _ => Window { base: random.below(8).wrapping_sub(4), size: random.below(8).wrapping_sub(2), target: 3 },
-            };
+            });
         }
-        let t = Table::new([random.below(8) as u32, random.next() as u32][(turn % 2) as usize], windows);
+        let t = Table::new(if turn % 8 < 6 { random.below(8) as u32 } else { random.next() as u32 }, windows);
         for _ in 0..4 {
             let w = t.windows[random.below(6) as usize];
             let near = random.below(4).wrapping_sub(2);
-            let a = [random.next(), w.base.wrapping_add(near), w.base.wrapping_add(w.size).wrapping_add(near)][random.below(3) as usize];
-            let answer = plain::choice(&t, a);
-            assert_eq!(proved::choice(&t, a), answer);
-            assert_eq!(proved::choice_former(&t, a), answer);
-            let reached = plain::accesses(&t, &[a]);
-            assert_eq!(proved::accesses(&t, &[a]), reached);
-            assert_eq!(proved::accesses_former(&t, &[a]), reached);
+            let a = match random.below(4) {
+                0 => random.next(),
+                1 => w.base.wrapping_add(near),
+                2 => w.base.wrapping_add(w.size).wrapping_add(near),
+                _ => w.base.wrapping_add(random.next() % w.size.max(1)),
+            };
+            for trial in &TRIALS {
+                let [before, now, _, plain] = trial.ways.map(|way| way(&t, &[a]));
+                assert!(before == plain && now == plain, "{}: {before} {now} {plain} at {a:x}", trial.title);
+            }
             compared += 1;
         }
     }
@@ -90,42 +105,54 @@ fn median(mut times: Vec<f64>) -> f64 {
     times[times.len() / 2]
 }
 
-/// Nanoseconds a choice, of each way, the ways in turn in every round; and the sums, which are equal.
-fn time(trial: &Trial, t: &Table, addresses: &[u64]) -> ([f64; 4], u64) {
+/// Nanoseconds an address, of each way, and the sums of their answers. Each round begins with another way.
+fn time(trial: &Trial, t: &Table, addresses: &[u64]) -> ([f64; 4], [u64; 4]) {
     let mut times = [const { Vec::new() }; 4];
     let mut sums = [0; 4];
     for round in 0..=ROUNDS {
-        for (i, way) in trial.ways.iter().enumerate() {
+        for turn in 0..4 {
+            let i = (round + turn) % 4;
             let begin = Instant::now();
-            sums[i] = black_box(way(black_box(t), black_box(addresses)));
+            sums[i] = black_box(trial.ways[i](black_box(t), black_box(addresses)));
             // the first round is not counted
             if round > 0 {
                 times[i].push(begin.elapsed().as_nanos() as f64 / addresses.len() as f64);
             }
         }
+        assert!(sums.iter().all(|&s| s == sums[0]) || round == 0, "the sums differ: {sums:?}");
     }
-    assert!(sums.iter().all(|&s| s == sums[0]), "the ways differ: {sums:?}");
-    (times.map(median), sums[0])
+    (times.map(median), sums)
 }
 
-fn say(name: &str, (ns, sum): ([f64; 4], u64)) {
+fn say(name: &str, (ns, sums): ([f64; 4], [u64; 4])) {
     let [before, now, six, used] = ns;
     println!(
-        "{name:12} {before:7.2} {now:7.2} {:7.2}   {six:7.2} {:7.2}   {used:7.2} {:7.2}   {sum}",
+        "{name:10} {before:7.2} {now:7.2} {:6.2}   {six:7.2} {:6.2}   {used:7.2} {:6.2}   {} {}",
         now / before,
         now / six,
-        now / used
+        now / used,
+        sums[0],
+        sums[1]
     );
 }
 
 fn main() {
     let mut random = Random(0x9E37_79B9_7F4A_7C15);
-    println!("{} answers compared on random tables: all alike", compare(&mut random));
-    if std::env::args().nth(1).as_deref() == Some("compare") {
+    let only = match std::env::args().nth(1).as_deref() {
+        None => false,
+        Some("compare") => true,
+        Some(word) => {
+            eprintln!("windows: no such argument: {word} (none, or compare)");
+            std::process::exit(2);
+        }
+    };
+    println!("{} answers compared: all alike", compare(&mut random));
+    if only {
         return;
     }
 
     let t = six_windows();
+    let one = Table::new(1, t.windows);
     let mut runs: Vec<u64> = Vec::with_capacity(6 * RUN);
     for w in &t.windows {
         runs.extend((0..RUN).map(|_| w.base + random.below(w.size)));
@@ -136,15 +163,22 @@ fn main() {
     }
     let outside: Vec<u64> = (0..RUN).map(|_| 0xA000_0000 + random.below(1 << 28)).collect();
 
-    println!("nanoseconds a choice, medians of {ROUNDS} rounds, six windows, {RUN} choices in a row in each");
+    println!("nanoseconds an address, medians of {ROUNDS} rounds; a window's row has {RUN} addresses, all 1,200,000 in six runs");
+    // a first pass that is not counted, so that the processor runs at its full speed
+    for trial in &TRIALS {
+        time(trial, &t, &runs);
+    }
     for trial in &TRIALS {
         println!("\n{}", trial.title);
-        println!("              before     now   ratio   Rust, 6   ratio   Rust, n   ratio   sum of the answers");
+        println!("            before     now  ratio   Rust, 6  ratio   Rust, n  ratio   sums before, now");
         for (i, run) in runs.chunks(RUN).enumerate() {
             say(&format!("window {i}"), time(trial, &t, run));
         }
         say("all", time(trial, &t, &runs));
         say("mixed", time(trial, &t, &mixed));
         say("none holds", time(trial, &t, &outside));
+        // a table with one window in use; the other five entries hold none of these addresses
+        say("one: held", time(trial, &one, &runs[..RUN]));
+        say("one: none", time(trial, &one, &outside));
     }
 }

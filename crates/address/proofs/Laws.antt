@@ -207,7 +207,7 @@ module _ (b s : List ℕ) (a : AxiAddress) where
       (omega arith, omega arith, ap (λ (m : ℕ). holds (getD b m 0) (getD s m 0) a) (sym p) ∙ e)
   at-turn i n k false e f g = let p = f g in (omega arith, omega arith, p .2)
 
-  first-at : (i n k : ℕ) → firstFrom b s a i n ≡ At k → (i ≤ k) × (k < i + n) × (holds (getD b k 0) (getD s k 0) a ≡ true)
+  pub first-at : (i n k : ℕ) → firstFrom b s a i n ≡ At k → (i ≤ k) × (k < i + n) × (holds (getD b k 0) (getD s k 0) a ≡ true)
   unfolding firstFrom
   first-at i zero k e = let z : _≡_ {A = ℕ} 0 1 = cc in absurd (omega arith)
   first-at i (suc n) k e = at-turn i n k (holds (getD b i 0) (getD s i 0) a) refl (first-at (suc i) n k) e

@@ -2,7 +2,7 @@
 ghost use mathlib.Core.Path.{_≡_};
 ghost use Prim.Native.Nat.{ℕ, _≤_, _<_, _-_};
 ghost use Rattle.address.specs.Windows.{holds, windowOf, Placed, translated};
-ghost use Rattle.address.specs.contracts.Entries.{entryOf};
+ghost use Rattle.address.specs.contracts.Entries.{entryNumber};
 ghost use Rattle.address.specs.Settings.{powerOfTwo, each, windowRight, rightAt, apart, apartAt, windowsRight, settingsNumber, exampleSettings};
 
 // An address on the AXI side.
@@ -45,10 +45,10 @@ pub fn in_window(base: u64, size: u64, a: AxiAddress) -> bool
     a.0 - base < size
 }
 
-// The first of the six entries that holds an address, in use or not; 6 where none does. The walk has one length for every
-// table, so that the compiler lays it out whole: no turn tests the count, and a table by value is read where it stands.
-fn entry_of(base: &[u64; 6], size: &[u64; 6], a: AxiAddress) -> u32
-    ensures { λ r. ⌜ r ≡ entryOf (windowOf 6 (now (base .entry)) (now (size .entry)) a) ⌝ }
+// The first of the six entries that holds an address, in use or not; 6 where none does. The loop has a constant length, so that
+// the compiler unrolls it with constant indices: no turn tests the count, and a table by value is not copied.
+fn first_of_six(base: &[u64; 6], size: &[u64; 6], a: AxiAddress) -> u32
+    ensures { λ r. ⌜ r ≡ entryNumber (windowOf 6 (now (base .entry)) (now (size .entry)) a) ⌝ }
 {
     let mut i = 0;
     while i < 6 {
@@ -64,7 +64,7 @@ fn entry_of(base: &[u64; 6], size: &[u64; 6], a: AxiAddress) -> u32
 pub fn window_of(count: u32, base: &[u64; 6], size: &[u64; 6], a: AxiAddress) -> Found
     ensures { λ r. ⌜ (r ≡ windowOf count (now (base .entry)) (now (size .entry)) a) × Placed r ⌝ }
 {
-    let i = entry_of(base, size, a);
+    let i = first_of_six(base, size, a);
     if i < 6 {
         if i < count {
             return Found::At(i);

@@ -42,7 +42,7 @@ pub struct Shift {
     pub target: u64,
 }
 
-// One of six numbers. By cases and not by an index, so that a table by value is read where it stands.
+// One of six numbers. By cases and not by an index, so that the compiler needs no copy of the table in memory.
 fn one_of(xs: [u64; 6], i: u32) -> u64
     requires { ⌜ i < 6 ⌝ }
     ensures { λ r. ⌜ r ≡ getD xs i 0 ⌝ }

@@ -26,19 +26,19 @@ module _ (w : Windows) (a : ℕ) where
   abbrev place : ℕ
   place = indexOf (windowOf (w .count) (w .base) (w .size) (axi a))
 
-  reach : (t : Bool) (x : ℕ) → not t ≡ true → 0 ≡ cond t x 0
-  reach true x e = absurd (false≢true e)
-  reach false x e = refl
+  when-none : (t : Bool) (x : ℕ) → not t ≡ true → 0 ≡ cond t x 0
+  when-none true x e = absurd (false≢true e)
+  when-none false x e = refl
 
-  reach-on : (t : Bool) (x : ℕ) → not t ≡ false → x ≡ cond t x 0
-  reach-on true x e = refl
-  reach-on false x e = absurd (false≢true (sym e))
+  when-held : (t : Bool) (x : ℕ) → not t ≡ false → x ≡ cond t x 0
+  when-held true x e = refl
+  when-held false x e = absurd (false≢true (sym e))
 
   pub reach-none : none ≡ true → 0 ≡ reachedAt w a
   unfolding reachedAt
-  reach-none e = reach (eqb (foundNumber (windowOf (w .count) (w .base) (w .size) (axi a))) 0) _ e
+  reach-none e = when-none (eqb (foundNumber (windowOf (w .count) (w .base) (w .size) (axi a))) 0) _ e
 
   pub reach-some : none ≡ false → (b t r : ℕ) → b ≡ getD (w .base) place 0 → t ≡ getD (w .target) place 0 → r ≡ translated b t (axi a) .0 → r ≡ reachedAt w a
   unfolding reachedAt
   reach-some e b t r f g h =
-      rw (f, g) at h ∙ reach-on (eqb (foundNumber (windowOf (w .count) (w .base) (w .size) (axi a))) 0) _ e
+      rw (f, g) at h ∙ when-held (eqb (foundNumber (windowOf (w .count) (w .base) (w .size) (axi a))) 0) _ e

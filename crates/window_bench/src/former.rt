@@ -1,5 +1,5 @@
-// The choice of a window as it was before request A3, word for word: each turn of the walk tests the count, and what it finds
-// is read from a copy of the table.
+// The choice of a window as it was before request A3, word for word: each turn of the walk tests the count, and `shift_of`
+// takes base and target by an index.
 use address::AxiAddress;
 use address::Found;
 use address::Windows;

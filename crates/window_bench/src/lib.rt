@@ -1,5 +1,5 @@
-// The choice of a window, many times over: what bench/ times. Each function stands here twice, with the present choice and
-// with the one before request A3.
+// What bench/ times: the choice of a window, by itself and as an access of the bridge makes it. Each export stands here twice,
+// with the present choice and, `_former`, with the one before request A3.
 mod former;
 
 use address::AxiAddress;
@@ -7,14 +7,12 @@ use address::Found;
 use address::Windows;
 use packets::Shift;
 ghost use mathlib.Core.Path.{_≡_};
-ghost use Prim.Native.Nat.{ℕ, _+_, _%_, _^_};
-ghost use lib.ListN.{length};
-ghost use Rattle.address.specs.Windows.{axi, windowOf, translated};
-ghost use Rattle.address.specs.contracts.Entries.{entryOf};
-ghost use Rattle.window_bench.specs.Sums.{sumTo, entryAt, reachedAt};
+ghost use Rattle.address.specs.Windows.{axi, translated};
+ghost use Rattle.address.specs.contracts.Entries.{entryNumber};
+ghost use Rattle.window_bench.specs.Sums.{sumOf, entryAt, tableOf, reachedAt};
 
-fn entry(f: Found) -> u64
-    ensures { λ r. ⌜ r ≡ entryOf f ⌝ }
+fn entry_number(f: Found) -> u64
+    ensures { λ r. ⌜ r ≡ entryNumber f ⌝ }
 {
     match f {
         Found::At(i) => i as u64,
@@ -22,13 +20,13 @@ fn entry(f: Found) -> u64
     }
 }
 
-// ---- one choice a call
+// ---- the choice on lent columns: one, and the sum of many
 
 #[no_mangle]
 pub extern "C" fn window_bench_choice(count: u32, base: &[u64; 6], size: &[u64; 6], a: u64) -> u64
     ensures { λ r. ⌜ r ≡ entryAt count (now (base .entry)) (now (size .entry)) a ⌝ }
 {
-    entry(address::window_of(count, base, size, AxiAddress(a)))
+    entry_number(address::window_of(count, base, size, AxiAddress(a)))
 }
 
 #[no_mangle]
@@ -40,10 +38,8 @@ pub extern "C" fn window_bench_choice_former(
 ) -> u64
     ensures { λ r. ⌜ r ≡ entryAt count (now (base .entry)) (now (size .entry)) a ⌝ }
 {
-    entry(former::window_of(count, base, size, AxiAddress(a)))
+    entry_number(former::window_of(count, base, size, AxiAddress(a)))
 }
-
-// ---- a choice for each of many addresses
 
 #[no_mangle]
 pub extern "C" fn window_bench_choices(
@@ -52,7 +48,7 @@ pub extern "C" fn window_bench_choices(
     size: &[u64; 6],
     addresses: &[u64],
 ) -> u64
-    ensures { λ r. ⌜ r ≡ sumTo (entryAt count (now (base .entry)) (now (size .entry))) (now (addresses .entry)) (length (now (addresses .entry))) ⌝ }
+    ensures { λ r. ⌜ r ≡ sumOf (entryAt count (now (base .entry)) (now (size .entry))) (now (addresses .entry)) ⌝ }
 {
     let mut sum: u64 = 0;
     let mut k = 0;
@@ -70,7 +66,7 @@ pub extern "C" fn window_bench_choices_former(
     size: &[u64; 6],
     addresses: &[u64],
 ) -> u64
-    ensures { λ r. ⌜ r ≡ sumTo (entryAt count (now (base .entry)) (now (size .entry))) (now (addresses .entry)) (length (now (addresses .entry))) ⌝ }
+    ensures { λ r. ⌜ r ≡ sumOf (entryAt count (now (base .entry)) (now (size .entry))) (now (addresses .entry)) ⌝ }
 {
     let mut sum: u64 = 0;
     let mut k = 0;
@@ -84,7 +80,7 @@ pub extern "C" fn window_bench_choices_former(
     sum
 }
 
-// ---- what the bridge makes of it for an access: whether a window holds the address, and the address behind it
+// ---- as an access makes it, with the table by value: whether a window holds the address, then that window's base and target
 
 fn behind(s: Shift, a: u64) -> u64
     ensures { λ r. ⌜ r ≡ translated (s .base) (s .target) (axi a) .0 ⌝ }
@@ -111,6 +107,20 @@ fn reached_former(w: Windows, a: u64) -> u64
     behind(former::shift_of(w, AxiAddress(a)), a)
 }
 
+fn table_of(count: u32, base: &[u64; 6], size: &[u64; 6], target: &[u64; 6]) -> Windows
+    ensures { λ r. ⌜ r ≡ tableOf count (now (base .entry)) (now (size .entry)) (now (target .entry)) ⌝ }
+{
+    let b = *base;
+    let z = *size;
+    let t = *target;
+    Windows {
+        count: count,
+        base: b,
+        size: z,
+        target: t,
+    }
+}
+
 #[no_mangle]
 pub extern "C" fn window_bench_accesses(
     count: u32,
@@ -119,17 +129,9 @@ pub extern "C" fn window_bench_accesses(
     target: &[u64; 6],
     addresses: &[u64],
 ) -> u64
-    ensures { λ r. ⌜ r ≡ sumTo (reachedAt (record { count = count; base = now (base .entry); size = now (size .entry); target = now (target .entry) })) (now (addresses .entry)) (length (now (addresses .entry))) ⌝ }
+    ensures { λ r. ⌜ r ≡ sumOf (reachedAt (tableOf count (now (base .entry)) (now (size .entry)) (now (target .entry)))) (now (addresses .entry)) ⌝ }
 {
-    let b = *base;
-    let z = *size;
-    let t = *target;
-    let w = Windows {
-        count: count,
-        base: b,
-        size: z,
-        target: t,
-    };
+    let w = table_of(count, base, size, target);
     let mut sum: u64 = 0;
     let mut k = 0;
     while k < addresses.len() {
@@ -147,17 +149,9 @@ pub extern "C" fn window_bench_accesses_former(
     target: &[u64; 6],
     addresses: &[u64],
 ) -> u64
-    ensures { λ r. ⌜ r ≡ sumTo (reachedAt (record { count = count; base = now (base .entry); size = now (size .entry); target = now (target .entry) })) (now (addresses .entry)) (length (now (addresses .entry))) ⌝ }
+    ensures { λ r. ⌜ r ≡ sumOf (reachedAt (tableOf count (now (base .entry)) (now (size .entry)) (now (target .entry)))) (now (addresses .entry)) ⌝ }
 {
-    let b = *base;
-    let z = *size;
-    let t = *target;
-    let w = Windows {
-        count: count,
-        base: b,
-        size: z,
-        target: t,
-    };
+    let w = table_of(count, base, size, target);
     let mut sum: u64 = 0;
     let mut k = 0;
     while k < addresses.len() {

@@ -1,19 +1,22 @@
 -- The invariant: the sum over the addresses passed.
-use mathlib.Core.Path.{_≡_, sym, ap, _∙_}
-use Prim.Native.Nat.{_+_, _-_, _≤_, zero-le}
+use mathlib.Core.Path.{_≡_, ap, _∙_}
+use Prim.Native.Nat.{_-_, _≤_, zero-le}
 use native.Mathlib.Omega.{arith}
 use borrow.Author.Needs.{needs}
 use lib.ListN.{length}
-use Rattle.window_bench.specs.Sums.{sumTo, reachedAt}
+use Rattle.window_bench.specs.Sums.{sumTo, sumOf, reachedAt}
 use Rattle.window_bench.proofs.Sums.{sum-none, sum-on}
 use Rattle.window_bench.proofs.window_bench_accesses.Statement.{statement}
 use Rattle.window_bench.proofs.window_bench_accesses.Tie as tie
 
 abbrev Inv-loop : tie.InvT-loop
-Inv-loop count base size target addresses w sum₀ k₀ sum k = (k ≤ length addresses) × (sum ≡ sumTo (reachedAt (record { count = count; base = base; size = size; target = target })) addresses k)
+Inv-loop count base size target addresses w sum₀ k₀ sum k = (k ≤ length addresses) × (sum ≡ sumTo (reachedAt w) addresses k)
 
 abbrev μ-loop : tie.MeasureT-loop
 μ-loop count base size target addresses w sum₀ k₀ sum k = length addresses - k
+
+table-of-requires : tie.Need-table-of-requires Inv-loop μ-loop
+table-of-requires c κs = tt
 
 loop-holds : tie.Need-loop-holds Inv-loop μ-loop
 loop-holds c = (zero-le, sum-none _ _)
@@ -38,16 +41,18 @@ loop-less c = search needs
 
 loop-again : tie.Need-loop-again Inv-loop μ-loop
 loop-again c =
-    let x = c .before .before .before .before .before .before .before .before .before .args in (
+    let x = c .before .before .before .before .before .before .before .args in (
       search needs,
-      c .wrapping-add-u64 .ensures ∙ sum-on (reachedAt (record { count = x .count; base = x .base .now; size = x .size .now; target = x .target .now })) (x .addresses .now) (c .before .before .before .before .loop .k) _ _ (c .before .before .before .before .loop .inv .1) (c .before .reached .ensures),
+      c .wrapping-add-u64 .ensures ∙ sum-on (reachedAt (c .before .before .before .before .before .table-of .result)) (x .addresses .now) (c .before .before .before .before .loop .k) _ _ (c .before .before .before .before .loop .inv .1) (c .before .reached .ensures),
     )
 
 returns : tie.Need-returns Inv-loop μ-loop
 returns c =
-    let x = c .before .before .before .before .before .before .args in
+    let x = c .before .before .before .before .args in
     let e : c .before .loop .k ≡ length (x .addresses .now) = omega arith in
-    c .before .loop .inv .1 ∙ ap (sumTo (reachedAt (record { count = x .count; base = x .base .now; size = x .size .now; target = x .target .now })) (x .addresses .now)) e
+    c .before .loop .inv .1
+    ∙ ap (sumTo (reachedAt (c .before .before .table-of .result)) (x .addresses .now)) e
+    ∙ ap (λ w. sumOf (reachedAt w) (x .addresses .now)) (c .before .before .table-of .ensures)
 
 pub window-bench-accesses-spec : {M : Type 1} → statement M
 window-bench-accesses-spec =
@@ -55,6 +60,7 @@ window-bench-accesses-spec =
     (tie.spec
     Inv-loop
     μ-loop
+    table-of-requires
     loop-holds
     mul-reached
     shared-slice-read-reached

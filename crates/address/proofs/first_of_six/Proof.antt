@@ -3,10 +3,10 @@ use mathlib.Core.Path.{_≡_, refl, sym, ap, _∙_}
 use Prim.Native.Nat.{suc, _+_, _-_, _≤_, zero-le}
 use native.Mathlib.Omega.{arith}
 use Rattle.address.specs.Windows.{windowOf, firstFrom}
-use Rattle.address.specs.contracts.Entries.{entryOf}
+use Rattle.address.specs.contracts.Entries.{entryNumber}
 use Rattle.address.proofs.Steps.{first-none, first-hit, first-on}
-use Rattle.address.proofs.entry_of.Statement.{statement}
-use Rattle.address.proofs.entry_of.Tie as tie
+use Rattle.address.proofs.first_of_six.Statement.{statement}
+use Rattle.address.proofs.first_of_six.Tie as tie
 
 abbrev Inv-loop : tie.InvT-loop
 Inv-loop base size a i₀ i = (i ≤ 6) × (windowOf 6 base size a ≡ firstFrom base size a i (6 - i))
@@ -43,7 +43,7 @@ returns c =
     let s = c .before .before .before .before .before .before .args .size .now in
     let a = c .before .before .before .before .before .before .args .a in
     let e : 6 - i ≡ suc (6 - (i + 1)) = omega arith in
-    sym (ap entryOf (c .before .before .before .before .before .loop .inv .1 ∙ ap (firstFrom b s a i) e ∙ first-hit b s a i (6 - (i + 1)) (sym (c .before .in-window .ensures) ∙ c .if1 .taken)))
+    sym (ap entryNumber (c .before .before .before .before .before .loop .inv .1 ∙ ap (firstFrom b s a i) e ∙ first-hit b s a i (6 - (i + 1)) (sym (c .before .in-window .ensures) ∙ c .if1 .taken)))
 
 add-i : tie.Need-add-i Inv-loop μ-loop
 add-i c = omega arith
@@ -69,10 +69,10 @@ returns-2 c =
     let s = c .before .before .args .size .now in
     let a = c .before .before .args .a in
     let e : 6 - i ≡ 0 = omega arith in
-    sym (ap entryOf (c .before .loop .inv .1 ∙ ap (firstFrom b s a i) e ∙ first-none b s a i))
+    sym (ap entryNumber (c .before .loop .inv .1 ∙ ap (firstFrom b s a i) e ∙ first-none b s a i))
 
-pub entry-of-spec : {M : Type 1} → statement M
-entry-of-spec =
+pub first-of-six-spec : {M : Type 1} → statement M
+first-of-six-spec =
     tie.close
     (tie.spec
     Inv-loop
