@@ -1,4 +1,4 @@
--- The ten starred examples hold, by computing.
+-- The ten starred examples and W12 hold, by computing.
 use mathlib.Core.Path.{refl}
 use Rattle.bits.specs.Bits.{bit, isSet, setBit, clearBit}
 use Rattle.tags.specs.Tags.{freeFrom}
@@ -41,6 +41,8 @@ played =
       w8 = refl;
       w9 = refl;
       crossed = refl;
+      w12 = refl;
+      w12-accepted = refl;
     }
 
 pub starred : Starred
@@ -56,6 +58,7 @@ starred =
       w8 = ecam.w8;
       w9 = ecam.w9;
       w10 = w10;
+      w12 = ecam.w12;
       played = played;
       answered = w3-completed;
       refused = w3-refused;

@@ -16,6 +16,7 @@ pub mod BothTurns
 -- A fresh bridge, configuration accesses, taking an answer.
 pub mod FreshLaws
 pub mod ConfigLaws
+pub mod RouteLaws
 pub mod TakeLaws
 -- Memory reads and writes.
 pub mod Behind

@@ -1,4 +1,4 @@
--- The worked examples of document 01: the ten starred ones, as facts about the definitions.
+-- The worked examples: document 01's ten starred ones and W12 (02, A4), as facts about the definitions.
 use Prim.Native.Nat.{ℕ, _^_, _-_}
 use mathlib.Core.Path.{_≡_}
 use mathlib.Core.List.{[], _∷_, map}
@@ -54,7 +54,7 @@ narrowSettings = record { windows = exampleWindows; bits = 1; reads = 128; write
 abbrev pub readAt : ℕ → Access
 readAt offset = accessOf offset false 0 0
 
--- W2 to W9 as the bridge plays them: the headers it sends, and its numbers
+-- W2 to W9 and W12 as the bridge plays them: the headers it sends, and its numbers
 pub record Played : Type 0 where
   pub w2 :
       readBytes up (burst.incr 0x12340ABC 2 64)
@@ -83,8 +83,12 @@ pub record Played : Type 0 where
       map (λ o. configRefusal down (readAt o) areaSize) (0x00000000 ∷ 0x00100000 ∷ [])
       ≡ 0 ∷ 10 ∷ []
   pub crossed : configRefusal (busBridge exampleSettings 0 3 2) (readAt 0x00300000) areaSize ≡ 10
+  pub w12 :
+      configBytes (busBridge exampleSettings 0 1 2) (readAt 0x00228000)
+      ≡ 0x05 ∷ 0x00 ∷ 0x00 ∷ 0x01 ∷ 0x00 ∷ 0x00 ∷ 0x00 ∷ 0x0F ∷ 0x02 ∷ 0x28 ∷ 0x00 ∷ 0x00 ∷ []
+  pub w12-accepted : configRefusal (busBridge exampleSettings 0 1 2) (readAt 0x00228000) areaSize ≡ 0
 
--- the ten starred examples, one statement
+-- the ten starred examples and W12, one statement
 pub record Starred : Type 0 where
   pub w1 : W1
   pub w2 : burst.W2
@@ -96,6 +100,7 @@ pub record Starred : Type 0 where
   pub w8 : ecam.W8
   pub w9 : ecam.W9
   pub w10 : W10
+  pub w12 : ecam.W12
   pub played : Played
   -- W3's 'count 6, lower 3E', on the bridge that its read leaves: the completion that is taken, and those that are not
   pub answered : W3Completed

@@ -3,6 +3,7 @@ pub mod RowLaws
 pub mod Rows
 pub mod MemoryLaws
 pub mod ConfigLaws
+pub mod RouteLaws
 pub mod MessageLaws
 pub mod SessionLaws
 pub mod Effects

@@ -10,7 +10,7 @@ use Rattle.ecam.specs.Registers.{some, decodeBits, isDecodeBit, errorBit
 use Rattle.bits.specs.Bits.{bit, isSet, fromBits, setBit}
 use Rattle.messages.specs.Layout.{entryOf}
 use Rattle.ecam.specs.Route.{outOfRange, route, numberOf}
-use Rattle.ecam.specs.Examples.{W7, W8, W9, buses, OneMessage, ThreeMessages, ManyMessages, AllMasked}
+use Rattle.ecam.specs.Examples.{W7, W8, W9, W12, DevicesElsewhere, buses, OneMessage, ThreeMessages, ManyMessages, AllMasked}
 use native.Mathlib.Omega.{arith}
 use borrow.Author.Tests.{lt-leb}
 
@@ -34,6 +34,14 @@ w9 =
       next = λ o e. rw (in-range 1 o e (lit< tt), e);
       crossed = λ o e. rw (in-range 3 o e (lit< tt), e);
     }
+
+pub w12 : W12
+unfolding route configRequest configTarget configAddress requestBytes formatType targetBytes
+w12 = record { goes = refl; header = refl }
+
+pub devices-elsewhere : DevicesElsewhere
+unfolding route
+devices-elsewhere = record { secondary = refl; primary = refl; past = refl; both = refl; crossed = refl }
 
 -- ---- error messages
 

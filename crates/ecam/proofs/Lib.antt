@@ -1,5 +1,6 @@
 pub mod Words
 pub mod Routes
+pub mod Named
 pub mod Requests
 pub mod Writes
 pub mod Keeps

@@ -2,10 +2,10 @@
 use mathlib.Core.Path.{_≡_, refl, sym, ap, _∙_}
 use mathlib.Core.Bool.{Bool, true, false, cond, not, _&&_, _||_}
 use Prim.Native.Nat.{ℕ, _+_, _*_, _/_, _%_, _^_, _≤_, _<_}
-use native.Mathlib.Nat.{mod-lt, mod-eq-of-lt, lt-of-lt-of-le, div-one}
+use native.Mathlib.Nat.{mod-lt, div-one}
 use native.Mathlib.Omega.{arith}
 use lib.Dec.{leb, ltb, eqb, lit<}
-use lib.Pow.{pow-mono, shr-mod, split}
+use lib.Pow.{shr-mod, split}
 use borrow.Author.Tests.{lt-ltb}
 use Rattle.tlp.specs.declared.request.Target.the-variants.{Config0, Config1}
 use Rattle.tlp.specs.Request.{validEnables, validConfig, validTarget, validRequest}
@@ -14,12 +14,8 @@ use Rattle.ecam.specs.declared.Route.the-variants.{OutOfRange, Local, Ty
 use Rattle.ecam.specs.Offset.{register, extended, function, device, bus}
 use Rattle.ecam.specs.Registers.{byte}
 use Rattle.ecam.specs.Request.{configAddress, configTarget, configRequest, dataBytes, dataWord}
-use Rattle.ecam.specs.Laws.{BusInHeader, ConfigRequestValid, DataReadsBack}
-use Rattle.ecam.proofs.Routes.{bus-fits, cut}
-
-pub bus-in-header : BusInHeader
-unfolding configAddress
-bus-in-header n o l h = mod-eq-of-lt (lt-of-lt-of-le (bus-fits n o h) (pow-mono l))
+use Rattle.ecam.specs.Laws.{ConfigRequestValid, DataReadsBack}
+use Rattle.ecam.proofs.Routes.{cut}
 
 address-valid : (o : ℕ) → validConfig (configAddress o) ≡ true
 unfolding configAddress

@@ -36,6 +36,22 @@ pub record W9 : Type 0 where
   pub next : (o : ℕ) → bus o ≡ 1 → numberOf (route 8 fresh o) ≡ 10
   pub crossed : (o : ℕ) → bus o ≡ 3 → numberOf (route 8 (buses 0 3 2) o) ≡ 10
 
+-- W12 (02, A4): n = 8, buses 0/1/2, device 5 on bus 2, config read, tag 0: 05 00 00 01 00 00 00 0F 02 28 00 00
+pub record W12 : Type 0 where
+  pub goes : route 8 (buses 0 1 2) 0x00228000 ≡ Type1
+  pub header :
+      requestBytes (configRequest (route 8 (buses 0 1 2) 0x00228000) 0x00228000 false 0 0 0)
+      ≡ 0x05 ∷ 0x00 ∷ 0x00 ∷ 0x01 ∷ 0x00 ∷ 0x00 ∷ 0x00 ∷ 0x0F ∷ 0x02 ∷ 0x28 ∷ 0x00 ∷ 0x00 ∷ []
+
+-- and round it: device 5 on bus 1, the secondary, gets 11, on bus 0 is local, on bus 3 gets 10. Secondary = primary = 1: local.
+-- Secondary 3, subordinate 2: bus 3 gets 10, not 11
+pub record DevicesElsewhere : Type 0 where
+  pub secondary : route 8 (buses 0 1 2) 0x00128000 ≡ DeviceNotZero
+  pub primary : route 8 (buses 0 1 2) 0x00028000 ≡ Local 0
+  pub past : route 8 (buses 0 1 2) 0x00328000 ≡ NotRouted
+  pub both : route 8 (buses 1 1 2) 0x00128000 ≡ Local 0
+  pub crossed : route 8 (buses 0 3 2) 0x00328000 ≡ NotRouted
+
 -- ---- error messages (02, A1)
 
 -- an error message from a requester ID, with a tag and a code

@@ -1,62 +1,20 @@
--- What is proved of the definitions, for every offset, all registers, every word, strobes and data.
+-- What is proved of requests and local words, for every route, all registers, every word, strobes and data. Offsets and routes
+-- are in RouteLaws, messages in MessageLaws.
 use mathlib.Core.Path.{_≡_}
 use mathlib.Core.List.{List, [], _∷_}
 use mathlib.Core.Bool.{Bool, true, false, cond, not, _&&_, _||_}
 use Prim.Native.Nat.{ℕ, _+_, _*_, _%_, _^_, _≤_, _<_}
 use lib.Dec.{eqb}
-use Rattle.common.specs.Tests.{firstOf}
 use lib.ListN.{length}
 use Rattle.bits.specs.Bits.{isSet}
 use Rattle.messages.specs.Queue.{depth, isEmpty}
 use Rattle.tlp.specs.Request.{validRequest}
 use Rattle.ecam.specs.Fields.{Registers}
 use Rattle.ecam.specs.declared.Route.{Route}
-use Rattle.ecam.specs.declared.Route.the-variants.{Type0, Type1}
-use Rattle.ecam.specs.Offset.{register, extended, function, device, bus, word}
-use Rattle.ecam.specs.Route.{outOfRange, isLocal, isRouted, deviceNotZero, route, numberOf}
 use Rattle.ecam.specs.Registers.{isDecodeBit, isErrorBit, decodeWord, byte, strobe, strobed, reached, statusControl, errorFifoOverflow, errorFifoRead, localRead, localWrite, withDecode, raised, messaged, line, fresh}
-use Rattle.ecam.specs.Request.{configAddress, configRequest, dataBytes, dataWord}
-
--- ---- offsets and routes
-
--- the fields and the two ignored bits are the whole offset
-abbrev pub FieldsAreOffset : Type 0
-FieldsAreOffset = (o : ℕ) → bus o * 2 ^ 20 + device o * 2 ^ 15 + function o * 2 ^ 12 + extended o * 2 ^ 8 + register o * 2 ^ 2 + o % 4 ≡ o
-
--- the local word is chosen by the two register fields alone
-abbrev pub WordIsRegister : Type 0
-WordIsRegister = (o : ℕ) → word o ≡ extended o * 2 ^ 8 + register o * 2 ^ 2
-
--- an offset in range has a bus number of n bits
-abbrev pub BusFits : Type 0
-BusFits = (n o : ℕ) → o < 2 ^ (20 + n) → bus o < 2 ^ n
-
--- a route's number is the refusal table's, in its order
-abbrev pub NumberIsTable : Type 0
-NumberIsTable =
-    (n : ℕ) (r : Registers) (o : ℕ)
-    → numberOf (route n r o)
-    ≡ firstOf ((outOfRange n o, 9) ∷ (isLocal r o, 0) ∷ (not (isRouted r o), 10) ∷ (deviceNotZero o, 11) ∷ [])
-
--- what a request that goes out has passed
-pub record GoesOut (n : ℕ) (r : Registers) (o : ℕ) : Type 0 where
-  pub inRange : o < 2 ^ (20 + n)
-  pub notPrimary : bus o ≡ r .primary → ⊥
-  pub above : r .secondary ≤ bus o
-  pub below : bus o ≤ r .subordinate
-  pub deviceZero : device o ≡ 0
-
-abbrev pub Type0GoesOut : Type 0
-Type0GoesOut = (n : ℕ) (r : Registers) (o : ℕ) → route n r o ≡ Type0 → GoesOut n r o × (bus o ≡ r .secondary)
-
-abbrev pub Type1GoesOut : Type 0
-Type1GoesOut = (n : ℕ) (r : Registers) (o : ℕ) → route n r o ≡ Type1 → GoesOut n r o × (r .secondary < bus o)
+use Rattle.ecam.specs.Request.{configRequest, dataBytes, dataWord}
 
 -- ---- the request
-
--- of an offset in range, with at most 8 bus bits, the header has the whole bus number
-abbrev pub BusInHeader : Type 0
-BusInHeader = (n o : ℕ) → n ≤ 8 → o < 2 ^ (20 + n) → configAddress o .bus ≡ bus o
 
 -- the request is one that the header writer takes
 abbrev pub ConfigRequestValid : Type 0

@@ -3,6 +3,7 @@ pub mod Route
 pub mod Fields
 pub mod Registers
 pub mod Request
+pub mod RouteLaws
 pub mod Laws
 pub mod MessageLaws
 pub mod Examples

@@ -20,13 +20,13 @@ isLocal r o = eqb (bus o) (r .primary)
 abbrev pub isRouted : Registers → ℕ → Bool
 isRouted r o = leb (r .secondary) (bus o) && leb (bus o) (r .subordinate)
 
--- row 11: 'Device other than 0 is refused on every bus but the primary'
-abbrev pub deviceNotZero : ℕ → Bool
-deviceNotZero o = not (eqb (device o) 0)
-
 -- 'type 0 when bus = secondary, else type 1'
 abbrev pub isType0 : Registers → ℕ → Bool
 isType0 r o = eqb (bus o) (r .secondary)
+
+-- row 11: 'Refusal 11 from now on is for the secondary bus only' (02, A4): device 0 alone is there
+abbrev pub deviceNotZero : Registers → ℕ → Bool
+deviceNotZero r o = isType0 r o && not (eqb (device o) 0)
 
 -- the order: 9, then local, then 10, then 11
 unfoldable pub route : ℕ → Registers → ℕ → Route
@@ -34,7 +34,7 @@ route n r o =
     cond (outOfRange n o) OutOfRange
     (cond (isLocal r o) (Local (word o))
     (cond (not (isRouted r o)) NotRouted
-    (cond (deviceNotZero o) DeviceNotZero
+    (cond (deviceNotZero r o) DeviceNotZero
     (cond (isType0 r o) Type0 Type1))))
 
 -- each case's refusal number

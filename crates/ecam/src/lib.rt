@@ -90,14 +90,14 @@ pub fn route_of(n: u32, r: Registers, offset: u64) -> Route
     if e < b {
         return Route::NotRouted;
     }
+    if s < b {
+        return Route::Type1;
+    }
     let d = device(offset);
     if d != 0 {
         return Route::DeviceNotZero;
     }
-    if b == s {
-        return Route::Type0;
-    }
-    Route::Type1
+    Route::Type0
 }
 
 // The route's refusal number.

@@ -50,7 +50,7 @@ offsetOver = 9
 abbrev pub notRouted : ℕ
 notRouted = 10
 
--- 'device not 0'
+-- 'device not 0'; 'for the secondary bus only' (02, A4)
 abbrev pub wrongDevice : ℕ
 wrongDevice = 11
 

@@ -1,4 +1,4 @@
-// The worked examples W1 to W11, played on the bridge. All are lent the same store and the same area.
+// The worked examples W1 to W12, played on the bridge. All are lent the same store and the same area.
 use address::AxiAddress;
 use address::Settings;
 use bridge::Answer;
@@ -73,6 +73,12 @@ fn read_sends(b: Bridge, q: Burst, area: &mut [u8; AREA_SIZE], expected: &[u8]) 
 
 fn read_number(b: Bridge, q: Burst, area: &mut [u8; AREA_SIZE]) -> u32 {
     b.read(q, area).answer.number
+}
+
+// A configuration read sends exactly these bytes.
+fn config_sends(b: Bridge, offset: u64, area: &mut [u8; AREA_SIZE], expected: &[u8]) -> bool {
+    let a = b.config(offset, false, 0, 0, area).answer;
+    (a.number == 0) & (a.length == expected.len()) & begins(area, expected)
 }
 
 fn config_number(b: Bridge, offset: u64, area: &mut [u8; AREA_SIZE]) -> u32 {
@@ -169,11 +175,12 @@ fn w6(store: &mut [u8; STORE_SIZE], area: &mut [u8; AREA_SIZE]) -> bool {
 }
 
 fn w7(store: &mut [u8; STORE_SIZE], area: &mut [u8; AREA_SIZE]) -> bool {
-    let b = with_buses(example(store), 0x00010100, store, area);
-    let a = b.config(0x00100000, false, 0, 0, area).answer;
-    (a.number == 0)
-        & (a.length == 12)
-        & begins(area, b"\x04\x00\x00\x01\x00\x00\x00\x0F\x01\x00\x00\x00")
+    config_sends(
+        with_buses(example(store), 0x00010100, store, area),
+        0x00100000,
+        area,
+        b"\x04\x00\x00\x01\x00\x00\x00\x0F\x01\x00\x00\x00",
+    )
 }
 
 fn w8(store: &mut [u8; STORE_SIZE], area: &mut [u8; AREA_SIZE]) -> bool {
@@ -226,6 +233,16 @@ fn w11(store: &mut [u8; STORE_SIZE], area: &mut [u8; AREA_SIZE]) -> bool {
     (read_number(b, q, area) == 0) & is_failed(late, store) & (read_number(rests, q, area) == 7)
 }
 
+// Device 5 on bus 2, behind a switch on bus 1.
+fn w12(store: &mut [u8; STORE_SIZE], area: &mut [u8; AREA_SIZE]) -> bool {
+    config_sends(
+        with_buses(example(store), 0x00020100, store, area),
+        0x00228000,
+        area,
+        b"\x05\x00\x00\x01\x00\x00\x00\x0F\x02\x28\x00\x00",
+    )
+}
+
 fn say(text: &[u8]) -> bool {
     let mut line = [0u8; ROOM];
     let end = put_all(&mut line, 0, text);
@@ -257,12 +274,13 @@ fn examples(store: &mut [u8; STORE_SIZE], area: &mut [u8; AREA_SIZE]) -> bool {
         && report(9, w9(store, area))
         && report(10, w10(store, area))
         && report(11, w11(store, area))
+        && report(12, w12(store, area))
 }
 
 fn main() {
     let mut store = [0u8; STORE_SIZE];
     let mut area = [0u8; AREA_SIZE];
     if say(b"bridge") && examples(&mut store, &mut area) {
-        say(b"done 11");
+        say(b"done 12");
     }
 }

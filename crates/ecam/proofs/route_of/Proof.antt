@@ -1,8 +1,20 @@
+use Prim.Native.Nat.{ℕ, _≤_, _<_}
+use mathlib.Core.Path.{_≡_}
+use mathlib.Core.Bool.{true, false}
+use native.Mathlib.Omega.{arith}
+use lib.Dec.{eqb}
 use borrow.Author.Needs.{needs}
 use borrow.Author.Tests.{eq-eqb, ne-eqb, le-leb, lt-leb}
 use Rattle.ecam.specs.Route.{route}
 use Rattle.ecam.proofs.route_of.Statement.{statement}
 use Rattle.ecam.proofs.route_of.Tie as tie
+
+-- a bus behind the secondary one, and that bus itself
+behind : (b s : ℕ) → s < b → eqb b s ≡ false
+behind b s p = ne-eqb b s (λ z. omega (arith, z, p))
+
+same : (b s : ℕ) → s ≤ b → b ≤ s → eqb b s ≡ true
+same b s p q = eq-eqb b s (omega (arith, p, q))
 
 out-of-range-requires : tie.Need-out-of-range-requires
 out-of-range-requires c κs = search needs
@@ -66,25 +78,24 @@ returns-4 c = λ cells.
       lt-leb _ _ (c .if4 .taken),
     )
 
-device-requires : tie.Need-device-requires
-device-requires c κs = search needs
-
 returns-5 : tie.Need-returns-5
 unfolding route
 returns-5 c = λ cells.
     rw (
-      ← c .before .before .before .before .before .before .before .before .before .before .out-of-range .ensures,
-      c .before .before .before .before .before .before .before .before .before .if1 .left,
-      ← c .before .before .before .before .before .before .before .before .bus .ensures,
-      ← c .before .before .before .before .before .before .before .long .ensures .0,
-      ne-eqb _ _ (c .before .before .before .before .before .before .if2 .left),
-      ← c .before .before .before .before .before .long2 .ensures .0,
-      le-leb _ _ (c .before .before .before .before .if3 .left),
-      ← c .before .before .before .long3 .ensures .0,
-      le-leb _ _ (c .before .before .if4 .left),
-      ← c .before .device .ensures,
-      ne-eqb _ _ (c .if5 .taken),
+      ← c .before .before .before .before .before .before .before .before .before .out-of-range .ensures,
+      c .before .before .before .before .before .before .before .before .if1 .left,
+      ← c .before .before .before .before .before .before .before .bus .ensures,
+      ← c .before .before .before .before .before .before .long .ensures .0,
+      ne-eqb _ _ (c .before .before .before .before .before .if2 .left),
+      ← c .before .before .before .before .long2 .ensures .0,
+      le-leb _ _ (c .before .before .before .if3 .left),
+      ← c .before .before .long3 .ensures .0,
+      le-leb _ _ (c .before .if4 .left),
+      behind _ _ (c .if5 .taken),
     )
+
+device-requires : tie.Need-device-requires
+device-requires c κs = search needs
 
 returns-6 : tie.Need-returns-6
 unfolding route
@@ -99,9 +110,9 @@ returns-6 c = λ cells.
       le-leb _ _ (c .before .before .before .before .before .if3 .left),
       ← c .before .before .before .before .long3 .ensures .0,
       le-leb _ _ (c .before .before .before .if4 .left),
-      ← c .before .before .device .ensures,
-      eq-eqb _ _ (c .before .if5 .left),
-      eq-eqb _ _ (c .if6 .taken),
+      same _ _ (c .before .before .before .before .before .if3 .left) (c .before .before .if5 .left),
+      ← c .before .device .ensures,
+      ne-eqb _ _ (c .if6 .taken),
     )
 
 returns-7 : tie.Need-returns-7
@@ -117,9 +128,9 @@ returns-7 c = λ cells.
       le-leb _ _ (c .before .before .before .before .before .if3 .left),
       ← c .before .before .before .before .long3 .ensures .0,
       le-leb _ _ (c .before .before .before .if4 .left),
-      ← c .before .before .device .ensures,
-      eq-eqb _ _ (c .before .if5 .left),
-      ne-eqb _ _ (c .if6 .left),
+      same _ _ (c .before .before .before .before .before .if3 .left) (c .before .before .if5 .left),
+      ← c .before .device .ensures,
+      eq-eqb _ _ (c .if6 .left),
     )
 
 pub route-of-spec : {M : Type 1} → statement M
@@ -136,7 +147,7 @@ route-of-spec =
     returns-3
     long-requires-3
     returns-4
-    device-requires
     returns-5
+    device-requires
     returns-6
     returns-7)
