@@ -2,20 +2,17 @@
 use mathlib.Core.Path.{_≡_, refl, sym, ap, _∙_}
 use mathlib.Core.Bool.{Bool, true, false, cond, not, _&&_}
 use mathlib.Core.List.{[], _∷_}
-use Prim.Native.Nat.{ℕ, _%_, _≤_, _<_}
+use Prim.Native.Nat.{ℕ, _≤_, _<_}
 use native.Mathlib.Omega.{arith}
 use borrow.Author.Tests.{ltb-false, eqb-true, le-ltb, eq-eqb, ne-eqb}
 use lib.Dec.{ltb, eqb}
 use Rattle.refusals.specs.Table.{configOrder, refusedBy}
-use Rattle.tags.specs.Tags.{lowest, available}
+use Rattle.tags.specs.Tags.{available}
 use Rattle.tlp.specs.declared.request.Target.{Target}
-use Rattle.tlp.specs.declared.request.Target.the-variants.{Config0, Config1}
-use Rattle.tlp.specs.declared.request.RequestRead.the-variants.{Header}
 use Rattle.ecam.specs.declared.Route.{Route}
 use Rattle.ecam.specs.declared.Route.the-variants.{OutOfRange, Local, Type0, Type1, NotRouted, DeviceNotZero}
-use Rattle.ecam.specs.Route.{route, numberOf}
+use Rattle.ecam.specs.Route.{numberOf}
 use Rattle.ecam.specs.Request.{configTarget, configRequest}
-use Rattle.ecam.specs.RouteLaws.{offsetOf}
 use Rattle.ecam.proofs.Routes.{route-exactly}
 use Rattle.ecam.proofs.Named.{type0-names, type1-names, type0-reaches, type1-reaches}
 use Rattle.parts.specs.Cores.{Core}
@@ -103,21 +100,8 @@ module _ (b : Bridge) (a : Access) (room : ℕ) (y : Ready b room) where
       (record { long = y .long; free = y .free; routed = ap numberOf e ∙ z; up = λ h. y .up; tag = λ h. y .tag })
       in record {
         accepted = accepted;
-        header =
-            routed-packet b a room (record { requester = y .requester; accepted = accepted; out = ap goesOut e ∙ g }) .header
-            ∙ ap
-            (λ (u : Target).
-            Header
-            (record {
-              write = a .write;
-              target = u;
-              length = 1;
-              requester = b .settings .requester;
-              tag = lowest tagCount (b .core .free);
-              last = 0;
-              first = cond (a .write) (a .strobes % 16) 0xF;
-            }))
-            s;
+        packet = routed-packet b a room (record { requester = y .requester; accepted = accepted; out = ap goesOut e ∙ g });
+        target = s;
       }
 
 pub type0-sends : Type0Sends
@@ -128,18 +112,12 @@ pub type1-sends : Type1Sends
 type1-sends b a room y e =
     sends b a room y Type1 _ e refl refl (type1-names (b .settings .bits) (registersOf b) (a .offset) (y .bits) e)
 
--- the route of an offset that is known, and the target of its request
-routed-at : (b : Bridge) (a : Access) (o : ℕ) (x : Route) (t : Target) → a .offset ≡ o
-    → (route (b .settings .bits) (registersOf b) o ≡ x) × (configTarget x o ≡ t)
-    → (routeOf b a ≡ x) × (configTarget (routeOf b a) (a .offset) ≡ t)
-routed-at b a o x t e h = (rw e (h .0), rw (e, h .0) (h .1))
-
 pub secondary-reached : SecondaryReached
 secondary-reached b a room p y o h e l z =
-    let r = routed-at b a (offsetOf p) Type0 (Config0 p) o (type0-reaches (b .settings .bits) (registersOf b) p h e l z) in
-    sends b a room y Type0 _ (r .0) refl refl (r .1)
+    let r = type0-reaches (b .settings .bits) (registersOf b) p h e l z in
+    sends b a room y Type0 _ (rw o (r .0)) refl refl (rw o (r .1))
 
 pub behind-reached : BehindReached
 behind-reached b a room p y o h l m =
-    let r = routed-at b a (offsetOf p) Type1 (Config1 p) o (type1-reaches (b .settings .bits) (registersOf b) p h l m) in
-    sends b a room y Type1 _ (r .0) refl refl (r .1)
+    let r = type1-reaches (b .settings .bits) (registersOf b) p h l m in
+    sends b a room y Type1 _ (rw o (r .0)) refl refl (rw o (r .1))

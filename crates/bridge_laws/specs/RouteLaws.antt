@@ -1,24 +1,22 @@
 -- Configuration accesses by their route (01, 'Configuration space', with 02, A4): refusals 9, 10 and 11, and the function that
 -- the header of an accepted access names. For every bridge and all arguments.
 use mathlib.Core.Path.{_≡_}
-use mathlib.Core.Bool.{true, cond}
-use Prim.Native.Nat.{ℕ, _%_, _^_, _≤_, _<_}
-use lib.ListN.{take}
-use Rattle.tags.specs.Tags.{lowest, available}
+use mathlib.Core.Bool.{true}
+use Prim.Native.Nat.{ℕ, _^_, _≤_, _<_}
+use Rattle.tags.specs.Tags.{available}
 use Rattle.tlp.specs.declared.request.ConfigAddress.{ConfigAddress}
 use Rattle.tlp.specs.declared.request.Target.{Target}
 use Rattle.tlp.specs.declared.request.Target.the-variants.{Config0, Config1}
-use Rattle.tlp.specs.declared.request.RequestRead.the-variants.{Header}
-use Rattle.tlp.specs.Request.{readRequest}
 use Rattle.ecam.specs.declared.Route.{Route}
 use Rattle.ecam.specs.declared.Route.the-variants.{Type0, Type1}
 use Rattle.ecam.specs.Offset.{device, bus}
 use Rattle.ecam.specs.Route.{numberOf}
-use Rattle.ecam.specs.RouteLaws.{Exactly, When, on, offsetOf, Elsewhere}
+use Rattle.ecam.specs.RouteLaws.{Exactly, When, functionOn, offsetOf, OtherBus}
 use Rattle.machine.specs.Bridge.{Bridge}
 use Rattle.machine.specs.State.{tagCount, slotFree, registersOf}
 use Rattle.machine.specs.Memory.{areaSize}
-use Rattle.machine.specs.Config.{Access, routeOf, configRefusal, configBytes}
+use Rattle.machine.specs.Config.{Access, routeOf, configRefusal}
+use Rattle.bridge_laws.specs.ConfigLaws.{requestOf, Packet}
 
 -- ---- refused
 
@@ -46,21 +44,11 @@ pub record Ready (b : Bridge) (room : ℕ) : Type 0 where
   pub up : registersOf b .link ≡ true
   pub tag : 0 < available tagCount (b .core .free)
 
--- the access is accepted, and its bytes begin with the header of a request to this target
+-- the access is accepted, and what it sends is a request to this target
 pub record Sends (b : Bridge) (a : Access) (room : ℕ) (t : Target) : Type 0 where
   pub accepted : configRefusal b a room ≡ 0
-  pub header :
-      readRequest (take 12 (configBytes b a))
-      ≡ Header
-      (record {
-        write = a .write;
-        target = t;
-        length = 1;
-        requester = b .settings .requester;
-        tag = lowest tagCount (b .core .free);
-        last = 0;
-        first = cond (a .write) (a .strobes % 16) 0xF;
-      })
+  pub packet : Packet b a
+  pub target : requestOf b a .target ≡ t
 
 -- a type 0 request names a function of device 0 on the secondary bus
 abbrev pub Type0Sends : Type 0
@@ -68,7 +56,7 @@ Type0Sends =
     (b : Bridge) (a : Access) (room : ℕ)
     → Ready b room
     → routeOf b a ≡ Type0
-    → Sends b a room (Config0 (on (registersOf b .secondary) 0 (a .offset)))
+    → Sends b a room (Config0 (functionOn (registersOf b .secondary) 0 (a .offset)))
 
 -- a type 1 request one of the offset's device on the offset's bus
 abbrev pub Type1Sends : Type 0
@@ -76,15 +64,15 @@ Type1Sends =
     (b : Bridge) (a : Access) (room : ℕ)
     → Ready b room
     → routeOf b a ≡ Type1
-    → Sends b a room (Config1 (on (bus (a .offset)) (device (a .offset)) (a .offset)))
+    → Sends b a room (Config1 (functionOn (bus (a .offset)) (device (a .offset)) (a .offset)))
 
--- so each function of device 0 on the secondary bus is reached by its number
+-- so each function of device 0 on the secondary bus is reached by its offset
 abbrev pub SecondaryReached : Type 0
 SecondaryReached =
     (b : Bridge) (a : Access) (room : ℕ) (p : ConfigAddress)
     → Ready b room
     → a .offset ≡ offsetOf p
-    → Elsewhere (b .settings .bits) (registersOf b) p
+    → OtherBus (b .settings .bits) (registersOf b) p
     → p .bus ≡ registersOf b .secondary
     → registersOf b .secondary ≤ registersOf b .subordinate
     → p .device ≡ 0
@@ -96,7 +84,7 @@ BehindReached =
     (b : Bridge) (a : Access) (room : ℕ) (p : ConfigAddress)
     → Ready b room
     → a .offset ≡ offsetOf p
-    → Elsewhere (b .settings .bits) (registersOf b) p
+    → OtherBus (b .settings .bits) (registersOf b) p
     → registersOf b .secondary < p .bus
     → p .bus ≤ registersOf b .subordinate
     → Sends b a room (Config1 p)

@@ -10,7 +10,7 @@ use Rattle.ecam.specs.Registers.{some, decodeBits, isDecodeBit, errorBit
 use Rattle.bits.specs.Bits.{bit, isSet, fromBits, setBit}
 use Rattle.messages.specs.Layout.{entryOf}
 use Rattle.ecam.specs.Route.{outOfRange, route, numberOf}
-use Rattle.ecam.specs.Examples.{W7, W8, W9, W12, DevicesElsewhere, buses, OneMessage, ThreeMessages, ManyMessages, AllMasked}
+use Rattle.ecam.specs.Examples.{W7, W8, W9, W12, DeviceFive, buses, OneMessage, ThreeMessages, ManyMessages, AllMasked}
 use native.Mathlib.Omega.{arith}
 use borrow.Author.Tests.{lt-leb}
 
@@ -39,9 +39,9 @@ pub w12 : W12
 unfolding route configRequest configTarget configAddress requestBytes formatType targetBytes
 w12 = record { goes = refl; header = refl }
 
-pub devices-elsewhere : DevicesElsewhere
+pub device-five : DeviceFive
 unfolding route
-devices-elsewhere = record { secondary = refl; primary = refl; past = refl; both = refl; crossed = refl }
+device-five = record { secondary = refl; primary = refl; past = refl; both = refl; crossed = refl }
 
 -- ---- error messages
 

@@ -2,7 +2,7 @@
 use mathlib.Core.Path.{_≡_, refl, sym, ap, subst, _∙_}
 use mathlib.Core.List.{[], _∷_}
 use mathlib.Core.Bool.{Bool, true, false, cond, not, _&&_}
-use Prim.Native.Nat.{ℕ, _+_, _*_, _/_, _%_, _^_, _≤_, _<_}
+use Prim.Native.Nat.{ℕ, _+_, _*_, _/_, _%_, _^_}
 use native.Mathlib.Nat.{add-comm}
 use native.Mathlib.Omega.{arith}
 use lib.Dec.{leb, eqb}
@@ -16,7 +16,7 @@ use Rattle.ecam.specs.declared.Route.{Route}
 use Rattle.ecam.specs.declared.Route.the-variants.{OutOfRange, Local, Type0, Type1, NotRouted, DeviceNotZero}
 use Rattle.ecam.specs.Offset.{register, extended, function, device, bus, word}
 use Rattle.ecam.specs.Route.{outOfRange, isLocal, isRouted, isType0, route, numberOf}
-use Rattle.ecam.specs.RouteLaws.{FieldsAreOffset, WordIsRegister, BusFits, NumberIsTable, Beyond, Between, When, RouteExactly, BothIsLocal, CrossedIsTen}
+use Rattle.ecam.specs.RouteLaws.{FieldsAreOffset, WordIsRegister, BusFits, NumberIsTable, NotLocal, Between, When, RouteExactly, PrimaryFirst, CrossedNotRouted}
 
 -- what is above bit j, cut at k bits further
 pub cut : (o j k : ℕ) → o / 2 ^ j ≡ o / 2 ^ (j + k) * 2 ^ k + o / 2 ^ j % 2 ^ k
@@ -60,8 +60,8 @@ no-such : {A : Type 0} → _≡_ {A = Bool} false true → A
 no-such e = let z : _≡_ {A = ℕ} 0 1 = cc in absurd (omega arith)
 
 module _ (n : ℕ) (r : Registers) (o : ℕ) where
-  beyond : outOfRange n o ≡ false → isLocal r o ≡ false → Beyond n r o
-  beyond a b = record { inRange = leb-false (2 ^ (20 + n)) o a; notPrimary = eqb-false (bus o) (r .primary) b }
+  not-local : outOfRange n o ≡ false → isLocal r o ≡ false → NotLocal n r o
+  not-local a b = record { inRange = leb-false (2 ^ (20 + n)) o a; notPrimary = eqb-false (bus o) (r .primary) b }
 
   between : isRouted r o ≡ true → Between r o
   between c =
@@ -89,11 +89,11 @@ module _ (n : ℕ) (r : Registers) (o : ℕ) where
           → When n r o (picked o a b c d e)
       by true b c d e p q s t u = leb-true (2 ^ (20 + n)) o p
       by false true c d e p q s t u = (leb-false (2 ^ (20 + n)) o p, eqb-true (bus o) (r .primary) q, refl)
-      by false false false d e p q s t u = (beyond p q, λ w. no-such (sym s ∙ routed w))
-      by false false true true true p q s t u = (beyond p q, between s, eqb-true (bus o) (r .secondary) t, eqb-true (device o) 0 u)
-      by false false true true false p q s t u = (beyond p q, between s, eqb-true (bus o) (r .secondary) t, eqb-false (device o) 0 u)
+      by false false false d e p q s t u = (not-local p q, λ w. no-such (sym s ∙ routed w))
+      by false false true true true p q s t u = (not-local p q, between s, eqb-true (bus o) (r .secondary) t, eqb-true (device o) 0 u)
+      by false false true true false p q s t u = (not-local p q, between s, eqb-true (bus o) (r .secondary) t, eqb-false (device o) 0 u)
       by false false true false e p q s t u =
-          (beyond p q, between s, lt-of-le-ne (between s .above) (λ z. eqb-false (bus o) (r .secondary) t (sym z)))
+          (not-local p q, between s, lt-of-le-ne (between s .above) (λ z. eqb-false (bus o) (r .secondary) t (sym z)))
 
   -- and what holds of it decides the route
   goes : (x : Route) → When n r o x → route n r o ≡ x
@@ -129,8 +129,8 @@ module _ (n : ℕ) (r : Registers) (o : ℕ) where
 pub route-exactly : RouteExactly
 route-exactly n r o x = (λ e. subst (When n r o) e (says n r o), goes n r o x)
 
-pub both-is-local : BothIsLocal
-both-is-local n r o h e f = goes n r o (Local (word o)) (h, f ∙ sym e, refl)
+pub primary-first : PrimaryFirst
+primary-first n r o h e f = goes n r o (Local (word o)) (h, f ∙ sym e, refl)
 
-pub crossed-is-ten : CrossedIsTen
-crossed-is-ten n r o h l = goes n r o NotRouted (h, λ w. omega (arith, w .above, w .below, l))
+pub crossed-not-routed : CrossedNotRouted
+crossed-not-routed n r o h l = goes n r o NotRouted (h, λ w. omega (arith, w .above, w .below, l))

@@ -36,16 +36,16 @@ pub record W9 : Type 0 where
   pub next : (o : ℕ) → bus o ≡ 1 → numberOf (route 8 fresh o) ≡ 10
   pub crossed : (o : ℕ) → bus o ≡ 3 → numberOf (route 8 (buses 0 3 2) o) ≡ 10
 
--- W12 (02, A4): n = 8, buses 0/1/2, device 5 on bus 2, config read, tag 0: 05 00 00 01 00 00 00 0F 02 28 00 00
+-- W12 (02, A4): offset 00228000, device 5 on bus 2, buses 0/1/2, config read, tag 0: 05 00 00 01 00 00 00 0F 02 28 00 00
 pub record W12 : Type 0 where
   pub goes : route 8 (buses 0 1 2) 0x00228000 ≡ Type1
   pub header :
       requestBytes (configRequest (route 8 (buses 0 1 2) 0x00228000) 0x00228000 false 0 0 0)
       ≡ 0x05 ∷ 0x00 ∷ 0x00 ∷ 0x01 ∷ 0x00 ∷ 0x00 ∷ 0x00 ∷ 0x0F ∷ 0x02 ∷ 0x28 ∷ 0x00 ∷ 0x00 ∷ []
 
--- and round it: device 5 on bus 1, the secondary, gets 11, on bus 0 is local, on bus 3 gets 10. Secondary = primary = 1: local.
--- Secondary 3, subordinate 2: bus 3 gets 10, not 11
-pub record DevicesElsewhere : Type 0 where
+-- the same device on the other buses: bus 1, the secondary, gets 11, bus 0 is local, bus 3 gets 10. With primary = secondary = 1
+-- bus 1 is local; with secondary 3, subordinate 2 bus 3 gets 10
+pub record DeviceFive : Type 0 where
   pub secondary : route 8 (buses 0 1 2) 0x00128000 ≡ DeviceNotZero
   pub primary : route 8 (buses 0 1 2) 0x00028000 ≡ Local 0
   pub past : route 8 (buses 0 1 2) 0x00328000 ≡ NotRouted

@@ -1,5 +1,5 @@
--- Offsets, routes, and the function that a request names: what is proved of them for every number of bus bits n, all registers
--- and every offset.
+-- Offsets, routes, and the function that a request names: what is proved of them for every number of bus bits n (of a header's
+-- bus number up to 8), all registers and every offset.
 use mathlib.Core.Path.{_≡_}
 use mathlib.Core.List.{[], _∷_}
 use mathlib.Core.Bool.{true, not}
@@ -47,7 +47,7 @@ abbrev pub Exactly : Type 0 → Type 0 → Type 0
 Exactly A B = (A → B) × (B → A)
 
 -- in range and not on the primary bus
-pub record Beyond (n : ℕ) (r : Registers) (o : ℕ) : Type 0 where
+pub record NotLocal (n : ℕ) (r : Registers) (o : ℕ) : Type 0 where
   pub inRange : o < 2 ^ (20 + n)
   pub notPrimary : bus o ≡ r .primary → ⊥
 
@@ -60,18 +60,18 @@ pub record Between (r : Registers) (o : ℕ) : Type 0 where
 abbrev pub When : ℕ → Registers → ℕ → Route → Type 0
 When n r o OutOfRange = 2 ^ (20 + n) ≤ o
 When n r o (Local w) = (o < 2 ^ (20 + n)) × (bus o ≡ r .primary) × (w ≡ word o)
-When n r o NotRouted = Beyond n r o × (Between r o → ⊥)
-When n r o DeviceNotZero = Beyond n r o × Between r o × (bus o ≡ r .secondary) × (device o ≡ 0 → ⊥)
-When n r o Type0 = Beyond n r o × Between r o × (bus o ≡ r .secondary) × (device o ≡ 0)
-When n r o Type1 = Beyond n r o × Between r o × (r .secondary < bus o)
+When n r o NotRouted = NotLocal n r o × (Between r o → ⊥)
+When n r o DeviceNotZero = NotLocal n r o × Between r o × (bus o ≡ r .secondary) × (device o ≡ 0 → ⊥)
+When n r o Type0 = NotLocal n r o × Between r o × (bus o ≡ r .secondary) × (device o ≡ 0)
+When n r o Type1 = NotLocal n r o × Between r o × (r .secondary < bus o)
 
 -- each route, exactly when
 abbrev pub RouteExactly : Type 0
 RouteExactly = (n : ℕ) (r : Registers) (o : ℕ) (x : Route) → Exactly (route n r o ≡ x) (When n r o x)
 
 -- where the primary bus is the secondary one too, it is local
-abbrev pub BothIsLocal : Type 0
-BothIsLocal =
+abbrev pub PrimaryFirst : Type 0
+PrimaryFirst =
     (n : ℕ) (r : Registers) (o : ℕ)
     → o < 2 ^ (20 + n)
     → r .primary ≡ r .secondary
@@ -79,38 +79,38 @@ BothIsLocal =
     → route n r o ≡ Local (word o)
 
 -- where the secondary number is above the subordinate, no bus is routed, the secondary one neither
-abbrev pub CrossedIsTen : Type 0
-CrossedIsTen =
-    (n : ℕ) (r : Registers) (o : ℕ) → Beyond n r o → r .subordinate < r .secondary → route n r o ≡ NotRouted
+abbrev pub CrossedNotRouted : Type 0
+CrossedNotRouted =
+    (n : ℕ) (r : Registers) (o : ℕ) → NotLocal n r o → r .subordinate < r .secondary → route n r o ≡ NotRouted
 
 -- ---- the function that a request names
 
 -- the offset's function and register, on this bus and device
-abbrev pub on : ℕ → ℕ → ℕ → ConfigAddress
-on b d o = record { bus = b; device = d; function = function o; extended = extended o; register = register o }
+abbrev pub functionOn : ℕ → ℕ → ℕ → ConfigAddress
+functionOn b d o = record { bus = b; device = d; function = function o; extended = extended o; register = register o }
 
--- type 0: of device 0 on the secondary bus
+-- a type 0 request names a function of device 0 on the secondary bus
 abbrev pub Type0Names : Type 0
 Type0Names =
     (n : ℕ) (r : Registers) (o : ℕ)
     → n ≤ 8
     → route n r o ≡ Type0
-    → configTarget (route n r o) o ≡ Config0 (on (r .secondary) 0 o)
+    → configTarget (route n r o) o ≡ Config0 (functionOn (r .secondary) 0 o)
 
--- type 1: of the offset's device on the offset's bus
+-- a type 1 request one of the offset's device on the offset's bus
 abbrev pub Type1Names : Type 0
 Type1Names =
     (n : ℕ) (r : Registers) (o : ℕ)
     → n ≤ 8
     → route n r o ≡ Type1
-    → configTarget (route n r o) o ≡ Config1 (on (bus o) (device o) o)
+    → configTarget (route n r o) o ≡ Config1 (functionOn (bus o) (device o) o)
 
 -- the offset of a register of a function
 abbrev pub offsetOf : ConfigAddress → ℕ
 offsetOf p = p .bus * 2 ^ 20 + p .device * 2 ^ 15 + p .function * 2 ^ 12 + p .extended * 2 ^ 8 + p .register * 2 ^ 2
 
 -- a header's address with a bus number of n bits, not the primary one
-pub record Elsewhere (n : ℕ) (r : Registers) (p : ConfigAddress) : Type 0 where
+pub record OtherBus (n : ℕ) (r : Registers) (p : ConfigAddress) : Type 0 where
   pub valid : validConfig p ≡ true
   pub fits : p .bus < 2 ^ n
   pub notPrimary : p .bus ≡ r .primary → ⊥
@@ -119,17 +119,17 @@ pub record Elsewhere (n : ℕ) (r : Registers) (p : ConfigAddress) : Type 0 wher
 abbrev pub Type0Reaches : Type 0
 Type0Reaches =
     (n : ℕ) (r : Registers) (p : ConfigAddress)
-    → Elsewhere n r p
+    → OtherBus n r p
     → p .bus ≡ r .secondary
     → r .secondary ≤ r .subordinate
     → p .device ≡ 0
-    → (route n r (offsetOf p) ≡ Type0) × (configTarget Type0 (offsetOf p) ≡ Config0 p)
+    → (route n r (offsetOf p) ≡ Type0) × (configTarget (route n r (offsetOf p)) (offsetOf p) ≡ Config0 p)
 
 -- and every function of every device on every bus behind it
 abbrev pub Type1Reaches : Type 0
 Type1Reaches =
     (n : ℕ) (r : Registers) (p : ConfigAddress)
-    → Elsewhere n r p
+    → OtherBus n r p
     → r .secondary < p .bus
     → p .bus ≤ r .subordinate
-    → (route n r (offsetOf p) ≡ Type1) × (configTarget Type1 (offsetOf p) ≡ Config1 p)
+    → (route n r (offsetOf p) ≡ Type1) × (configTarget (route n r (offsetOf p)) (offsetOf p) ≡ Config1 p)
