@@ -91,7 +91,7 @@ returns-5 c = λ cells.
       le-leb _ _ (c .before .before .before .if3 .left),
       ← c .before .before .long3 .ensures .0,
       le-leb _ _ (c .before .if4 .left),
-      behind _ _ (c .if5 .taken),
+      behind (c .before .before .before .before .before .before .before .bus .result) (c .before .before .before .before .long2 .result) (c .if5 .taken),
     )
 
 device-requires : tie.Need-device-requires
@@ -112,7 +112,7 @@ returns-6 c = λ cells.
       le-leb _ _ (c .before .before .before .if4 .left),
       same _ _ (c .before .before .before .before .before .if3 .left) (c .before .before .if5 .left),
       ← c .before .device .ensures,
-      ne-eqb _ _ (c .if6 .taken),
+      ne-eqb _ 0 (c .if6 .taken),
     )
 
 returns-7 : tie.Need-returns-7
@@ -130,7 +130,7 @@ returns-7 c = λ cells.
       le-leb _ _ (c .before .before .before .if4 .left),
       same _ _ (c .before .before .before .before .before .if3 .left) (c .before .before .if5 .left),
       ← c .before .device .ensures,
-      eq-eqb _ _ (c .if6 .left),
+      eq-eqb _ 0 (c .if6 .left),
     )
 
 pub route-of-spec : {M : Type 1} → statement M
