@@ -203,7 +203,9 @@ fn number_4() {
     b.refuses(expected, |b| b.read(PAGE, 2, 1));
     b.refuses(expected, |b| b.write(PAGE, 2, 1, &[1, 2, 3, 4]));
     b.local_write(0x018, 0x0002_0100);
-    b.refuses(expected, |b| b.config_read(0x0010_0000));
+    for offset in [0x0010_0000, 0x0020_0000, 0x0020_8000] {
+        b.refuses(expected, |b| b.config_read(offset));
+    }
     // After 15, 10 and 11.
     b.refuses(refusal(15, Response::Slverr), |b| {
         b.write(PAGE, 2, 1, &[1, 2, 3])
@@ -319,12 +321,14 @@ fn numbers_9_10_11() {
     }
     let past = 0x0030_8000; // device 1: 10 comes first
     b.refuses(refusal(10, Response::Slverr), |b| b.config_read(past));
-    for offset in [0x0010_8000, 0x001F_8000, 0x0020_8000] {
+    // On the secondary bus alone (tests/devices.rs).
+    for offset in [0x0010_8000, 0x001F_8000] {
         b.refuses(refusal(11, Response::Slverr), |b| b.config_read(offset));
         b.refuses(refusal(11, Response::Slverr), |b| {
             b.config(offset, true, 1, 15)
         });
     }
+    assert_eq!(b.clone().config_read(0x0020_8000).number, 0);
 }
 
 #[test]

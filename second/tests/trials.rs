@@ -48,6 +48,16 @@ fn session_numbers_of_the_trials() {
     assert!(sum.taken > 1000 && sum.taken_later > 200, "{sum:?}");
 }
 
+/// A4.4: demand 3 as it was, with requests to devices above 0 among the others.
+#[test]
+fn devices_of_the_trials() {
+    let mut sum = Figures::default();
+    for seed in 0..60 {
+        sum.add(&honest(seed, 500).unwrap());
+    }
+    assert!(sum.devices > 50 && sum.configs > 2 * sum.devices, "{sum:?}");
+}
+
 /// Why alike compares answers apart from their session numbers: the counter is
 /// no register.
 #[test]

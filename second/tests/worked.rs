@@ -1,4 +1,4 @@
-//! The worked examples W1 to W11.
+//! The worked examples W1 to W12.
 
 mod common;
 
@@ -143,4 +143,15 @@ fn w11_whole_page_needs_every_tag() {
     let refused = b.read(0x1234_0000, 5, 128);
     assert_eq!(refused, refusal(7, Response::Wait));
     assert_eq!(b.read(0x1234_0080, 5, 124).number, 0);
+}
+
+#[test]
+fn w12_device_below_a_switch() {
+    let mut b = Bench::routed(2);
+    let before = b.area.clone();
+    let got = b.config_read(0x0022_8000);
+    assert_eq!(got, answer(0, Response::None, 8, 12, 0));
+    assert_eq!(b.sent(got), [5, 0, 0, 1, 0, 0, 0, 0x0F, 2, 0x28, 0, 0]);
+    assert_eq!(b.area[12..], before[12..]);
+    assert_eq!(b.tags(), [0]);
 }

@@ -1,4 +1,5 @@
-//! Configuration accesses and the local words (01, "Configuration space").
+//! Configuration accesses and the local words (01, "Configuration space"; 02,
+//! request A4).
 
 use super::words::*;
 use super::{Bridge, ConfigSlot, Owner, Piece, AREA_BYTES, CONFIG_SLOT};
@@ -59,12 +60,12 @@ impl Bridge {
         }
     }
 
-    /// "if secondary <= bus <= subordinate"; "Device other than 0 is refused on
-    /// every bus but the primary".
+    /// "if secondary <= bus <= subordinate"; 02: "Refusal 11 from now on is for
+    /// the secondary bus only".
     fn routed_refusal(&self, place: &Place) -> u32 {
         if place.bus < self.secondary || place.bus > self.subordinate {
             10
-        } else if place.device != 0 {
+        } else if self.on_secondary(place) && place.device != 0 {
             11
         } else if !self.link_up {
             4
@@ -73,6 +74,10 @@ impl Bridge {
         } else {
             0
         }
+    }
+
+    fn on_secondary(&self, place: &Place) -> bool {
+        place.bus == self.secondary
     }
 
     fn send_config(&mut self, access: &Access, place: &Place, area: &mut [u8]) -> Answer {
@@ -94,8 +99,9 @@ impl Bridge {
         request_bytes(&Request {
             write: access.write,
             target: Target::Config {
-                // "type 0 when bus = secondary, else type 1"
-                type1: place.bus != self.secondary,
+                // "type 0 when bus = secondary, else type 1"; 02: "type 1
+                // requests carry any device".
+                type1: !self.on_secondary(place),
                 bus: place.bus,
                 device: place.device,
                 function: place.function,

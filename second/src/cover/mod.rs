@@ -2,6 +2,7 @@
 //! list of named points.
 
 mod classify;
+mod devices;
 mod errors;
 mod observe;
 mod points;
@@ -49,6 +50,9 @@ struct Memory {
     kept: bool,
     /// How many messages were removed.
     removed: usize,
+    /// The last accepted configuration access, read or write, where it was a type
+    /// 1 request to a device above 0.
+    below: Option<&'static str>,
     lives: sessions::Lives,
 }
 

@@ -82,6 +82,7 @@ impl Coverage {
             _ => self.header_call(event, outcome),
         }
         self.session(before, event, outcome, &mut memory.lives);
+        self.devices(before, event, outcome, machine, memory);
         self.changes(before, event, after);
         self.error_line(after);
         self.tags(before, after, memory);

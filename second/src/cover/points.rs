@@ -1,6 +1,6 @@
 //! The points that a run must reach.
 
-use super::{errors, sessions};
+use super::{devices, errors, sessions};
 use crate::bridge::{REGISTERS, WORD_INFO};
 
 const PLAIN: &str = "
@@ -194,5 +194,6 @@ pub fn required() -> Vec<String> {
     }
     list.extend(errors::required());
     list.extend(sessions::required());
+    list.extend(devices::required());
     list
 }

@@ -87,7 +87,9 @@ pub fn honest(seed: u64, events: usize) -> Result<Figures, Counterexample> {
 
 impl World {
     fn run(&mut self, events: usize) -> Result<(), String> {
-        self.local_write(0x018, 0x0001_0100)?;
+        // All buses from 1 on lie below, so that requests of both types come.
+        let most = (1 << self.bridge().settings().bus_bits) - 1;
+        self.local_write(0x018, 1 << 8 | most << 16)?;
         self.play(Event::Link {
             store: 32_768,
             up: true,
@@ -154,6 +156,8 @@ impl World {
             }
             Event::Config { .. } if answer.sent > 0 => {
                 self.figures.configs += 1;
+                let above_zero = self.machine.area[9] >> 3 != 0;
+                self.figures.devices += u64::from(above_zero);
                 self.requests(answer, None);
             }
             Event::Message { .. } => self.figures.messages += 1,

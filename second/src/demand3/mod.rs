@@ -20,6 +20,8 @@ pub struct Figures {
     pub events: u64,
     pub reads: u64,
     pub configs: u64,
+    /// Those of them that are to a device above 0.
+    pub devices: u64,
     pub okay_reads: u64,
     pub okay_bytes: u64,
     pub failed_reads: u64,
@@ -54,6 +56,7 @@ impl Figures {
         self.events += other.events;
         self.reads += other.reads;
         self.configs += other.configs;
+        self.devices += other.devices;
         self.okay_reads += other.okay_reads;
         self.okay_bytes += other.okay_bytes;
         self.failed_reads += other.failed_reads;
@@ -79,11 +82,12 @@ impl Figures {
     }
 
     /// Every figure with its name.
-    pub fn list(&self) -> [(&'static str, u64); 25] {
+    pub fn list(&self) -> [(&'static str, u64); 26] {
         [
             ("events with an honest far side", self.events),
             ("accepted memory reads", self.reads),
             ("accepted routed configuration accesses", self.configs),
+            ("of them to a device above 0", self.devices),
             ("reads answered OKAY, bytes compared", self.okay_reads),
             ("bytes compared", self.okay_bytes),
             ("reads answered otherwise", self.failed_reads),

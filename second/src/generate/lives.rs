@@ -103,16 +103,10 @@ impl Generator {
             return;
         }
         match self.random.chance(40) {
-            true => self.unsupported(before),
+            // UR, which is all ones for a configuration read.
+            true => self.fail_with(before, &[1]),
             false => self.finish_somehow(before),
         }
-    }
-
-    /// UR, which is all ones for a configuration read.
-    fn unsupported(&mut self, index: usize) {
-        let owed = self.far.live[index].clone();
-        let value = owed.status(1, &mut self.random);
-        self.send(&value);
     }
 
     fn leave_read(&mut self) {
@@ -124,7 +118,7 @@ impl Generator {
     }
 
     /// The request is answered, fails, times out or stays open.
-    fn finish_somehow(&mut self, index: usize) {
+    pub(super) fn finish_somehow(&mut self, index: usize) {
         let limit = self.machine.bridge.settings().time_limit;
         match self.random.below(10) {
             0..=2 => self.answer_request(index),

@@ -4,6 +4,7 @@
 pub(crate) mod bursts;
 pub(crate) mod configs;
 mod damage;
+mod devices;
 mod edges;
 pub mod far;
 mod headers;
@@ -55,10 +56,10 @@ pub fn traffic(seed: u64, events: usize) -> Traffic {
 /// routed, local, answer, odd answer, loss, tick, link, take, odd take, header,
 /// message, scene.
 const MOODS: [[u32; 14]; 5] = [
-    [14, 8, 9, 6, 44, 3, 1, 4, 1, 14, 2, 4, 2, 6],   // calm
+    [14, 8, 9, 6, 44, 3, 1, 4, 1, 14, 2, 4, 2, 7],   // calm
     [40, 4, 10, 2, 14, 3, 1, 2, 1, 4, 3, 2, 1, 4],   // filling up
     [4, 2, 3, 2, 60, 2, 1, 2, 1, 30, 2, 2, 1, 4],    // emptying
-    [16, 4, 9, 4, 20, 18, 6, 10, 3, 12, 4, 2, 4, 6], // stormy
+    [16, 4, 9, 4, 20, 18, 6, 10, 3, 12, 4, 2, 4, 7], // stormy
     [3, 3, 2, 2, 8, 2, 1, 2, 1, 4, 2, 50, 5, 1],     // headers
 ];
 

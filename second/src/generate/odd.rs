@@ -70,15 +70,20 @@ impl Generator {
 
     /// A failing status, also one that is not expected.
     pub fn fail(&mut self, index: usize) {
+        self.fail_with(index, &[1, 1, 2, 3, 4, 4, 5, 6, 7]);
+    }
+
+    /// One of these statuses.
+    pub(super) fn fail_with(&mut self, index: usize, statuses: &[u32]) {
         let owed = self.far.live[index].clone();
-        let status = self.random.pick(&[1, 1, 2, 3, 4, 4, 5, 6, 7]);
+        let status = self.random.pick(statuses);
         let value = owed.status(status, &mut self.random);
         self.send(&value);
     }
 
     fn malformed(&mut self, owed: &Owed) {
         let words = owed.some_words(&mut self.random).min(64);
-        let value = match self.random.chance(70) {
+        let value = match self.random.chance(60) {
             true => owed.right(words, &mut self.random),
             false => owed.status(1, &mut self.random),
         };

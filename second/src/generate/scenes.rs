@@ -9,7 +9,7 @@ impl Generator {
         if !self.machine.bridge.link_is_up() {
             self.link(true);
         }
-        match self.random.below(17) {
+        match self.random.below(19) {
             0 => self.everything_open_then_drop(),
             1 => self.whole_page(),
             2 => self.poison_then_failure(),
@@ -26,6 +26,7 @@ impl Generator {
             13 => self.several_lives(),
             14 => self.waiting_answer(),
             15 => self.local_while_down(),
+            16 | 17 => self.devices(),
             _ => self.set_buses(),
         }
     }
@@ -167,6 +168,10 @@ impl Generator {
         }
         self.release(8);
         self.routed();
+        if self.random.chance(80) {
+            self.release(8);
+            self.devices_without_a_tag();
+        }
         self.read_word();
         if self.random.chance(40) {
             self.link(false);
