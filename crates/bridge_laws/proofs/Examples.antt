@@ -1,8 +1,13 @@
 -- The ten starred examples and W12 hold, by computing.
-use mathlib.Core.Path.{refl}
+use Prim.Native.Nat.{_^_, _≤_, _<_}
+use mathlib.Core.Path.{_≡_, refl}
+use mathlib.Core.Bool.{true}
+use native.Mathlib.Omega.{arith}
+use lib.Dec.{lit<}
 use Rattle.bits.specs.Bits.{bit, isSet, setBit, clearBit}
 use Rattle.tags.specs.Tags.{freeFrom}
 use Rattle.tlp.specs.Request.{validTarget, validRequest, formatType, targetBytes, requestBytes}
+use Rattle.address.specs.Settings.{exampleSettings}
 use Rattle.address.specs.Windows.{holds, firstFrom, windowOf, translated}
 use Rattle.burst.specs.Bursts.{endFrom, burstRight, burstNumber, lengthOf}
 use Rattle.burst.specs.Pieces.{pieceCount, pieceFirst, pieceEnd, pieceAt}
@@ -13,11 +18,15 @@ use Rattle.ecam.specs.Route.{route}
 use Rattle.ecam.specs.Request.{configRequest, configTarget, configAddress}
 use Rattle.ecam.proofs.Examples as ecam
 use Rattle.machine.specs.State.{raisedCore, opened, shut, freeSlotFrom, accepted, refused, refusal, freshCore, freshBridge}
-use Rattle.machine.specs.Memory.{pcieOf, memoryRequest, packet, readRefusal, claimed, readTo, readSent, readStep}
+use Rattle.machine.specs.Memory.{areaSize, pcieOf, memoryRequest, packet, readRefusal, claimed, readTo, readSent, readStep}
 use Rattle.machine.specs.Completions.{faulted, failed, finished, pieceClosed}
 use Rattle.machine.specs.Ticks.{timedOut, expire, expireTo, ticked, linked}
-use Rattle.machine.specs.Config.{configNumber, payloadOf}
-use Rattle.bridge_laws.specs.Examples.{W1, W10, Played, Starred}
+use Rattle.machine.specs.Config.{Access, routeOf, goesOut, configRefusal, configNumber, payloadOf}
+use Rattle.machine.proofs.Configs.{passed}
+use Rattle.machine.specs.Bridge.{Bridge}
+use Rattle.bridge_laws.specs.RouteLaws.{Ready}
+use Rattle.bridge_laws.specs.Examples.{W1, W10, busBridge, readAt, Played, Starred, Reached}
+use Rattle.bridge_laws.proofs.RouteLaws.{secondary-reached, behind-reached}
 use Rattle.bridge_laws.proofs.CompletionExamples.{w3-completed, w3-refused}
 
 w1 : W1
@@ -62,4 +71,27 @@ starred =
       played = played;
       answered = w3-completed;
       refused = w3-refused;
+    }
+
+-- ---- the function that W7 and W12 name
+
+-- a bridge that accepts an access which goes out can send
+ready : (b : Bridge) (a : Access) → b .settings .bits ≤ 8 → b .settings .requester < 2 ^ 16 → configRefusal b a areaSize ≡ 0
+    → goesOut (routeOf b a) ≡ true → Ready b areaSize
+ready b a n q e g =
+    let p = passed (b .core) (routeOf b a) areaSize e in
+    record { bits = n; requester = q; long = p .long; free = p .free; up = p .up g; tag = p .tag g }
+
+pub reached : Reached
+unfolding bit isSet setBit clearBit freeFrom validTarget validRequest formatType targetBytes requestBytes holds firstFrom windowOf translated endFrom burstRight burstNumber lengthOf pieceCount pieceFirst pieceEnd pieceAt wordAddress wordCount firstEnables lastEnables fresh raised raisedCore opened freeSlotFrom accepted refused refusal freshCore freshBridge pcieOf memoryRequest packet readRefusal claimed readTo readSent readStep linked route configRequest configTarget configAddress configNumber payloadOf
+reached =
+    record {
+      w7 =
+          secondary-reached (busBridge exampleSettings 0 1 1) (readAt 0x00100000) areaSize _
+          (ready (busBridge exampleSettings 0 1 1) (readAt 0x00100000) (omega arith) (lit< tt) refl refl) refl
+          (record { valid = refl; fits = lit< tt; notPrimary = λ e. omega (arith, e) }) refl (omega arith) refl;
+      w12 =
+          behind-reached (busBridge exampleSettings 0 1 2) (readAt 0x00228000) areaSize _
+          (ready (busBridge exampleSettings 0 1 2) (readAt 0x00228000) (omega arith) (lit< tt) refl refl) refl
+          (record { valid = refl; fits = lit< tt; notPrimary = λ e. omega (arith, e) }) (lit< tt) (omega arith);
     }

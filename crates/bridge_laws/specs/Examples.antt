@@ -4,6 +4,7 @@ use mathlib.Core.Path.{_≡_}
 use mathlib.Core.List.{[], _∷_, map}
 use mathlib.Core.Bool.{true, false}
 use lib.ListN.{getD}
+use Rattle.tlp.specs.declared.request.Target.the-variants.{Config0, Config1}
 use Rattle.address.specs.declared.Settings.{Settings}
 use Rattle.address.specs.Settings.{exampleSettings, exampleWindows}
 use Rattle.burst.specs.Examples as burst
@@ -13,6 +14,7 @@ use Rattle.machine.specs.State.{withRegisters, withTicks, coreIn, missingOf, fr
 use Rattle.machine.specs.Memory.{areaSize, readRefusal, readStep, readBytes}
 use Rattle.machine.specs.Config.{Access, accessOf, configRefusal, configBytes}
 use Rattle.bridge_laws.specs.ExampleBridges.{emptyStore, upBridge, down, up}
+use Rattle.bridge_laws.specs.RouteLaws.{Sends}
 use Rattle.bridge_laws.specs.CompletionExamples.{W3Completed, W3Refused}
 use Rattle.machine.specs.Completions.{Held, held}
 use Rattle.machine.specs.Ticks.{withLink, ticked}
@@ -105,3 +107,12 @@ pub record Starred : Type 0 where
   -- W3's 'count 6, lower 3E', on the bridge that its read leaves: the completion that is taken, and those that are not
   pub answered : W3Completed
   pub refused : W3Refused
+
+-- W7 and W12 by the laws on routes, whose premises hold there: the function that each request names
+pub record Reached : Type 0 where
+  pub w7 :
+      Sends (busBridge exampleSettings 0 1 1) (readAt 0x00100000) areaSize
+      (Config0 (record { bus = 1; device = 0; function = 0; extended = 0; register = 0 }))
+  pub w12 :
+      Sends (busBridge exampleSettings 0 1 2) (readAt 0x00228000) areaSize
+      (Config1 (record { bus = 2; device = 5; function = 0; extended = 0; register = 0 }))

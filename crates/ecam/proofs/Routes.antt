@@ -9,7 +9,7 @@ use lib.Dec.{leb, eqb}
 use lib.Pow.{shr-lt, shr-shr, split}
 use lib.Arith.{lt-of-le-ne}
 use borrow.Author.Tests.{leb-true, leb-false, eqb-true, eqb-false, le-leb, lt-leb, eq-eqb, ne-eqb}
-use Rattle.bits.proofs.Flags.{and-left, and-right}
+use Rattle.bits.proofs.Flags.{apart, and-left, and-right}
 use Rattle.common.specs.Tests.{firstOf}
 use Rattle.ecam.specs.Fields.{Registers}
 use Rattle.ecam.specs.declared.Route.{Route}
@@ -56,9 +56,6 @@ number-is-table n r o = by (outOfRange n o) (isLocal r o) (isRouted r o) (isType
     by false false true true false = refl
     by false false true false e = refl
 
-no-such : {A : Type 0} → _≡_ {A = Bool} false true → A
-no-such e = let z : _≡_ {A = ℕ} 0 1 = cc in absurd (omega arith)
-
 module _ (n : ℕ) (r : Registers) (o : ℕ) where
   not-local : outOfRange n o ≡ false → isLocal r o ≡ false → NotLocal n r o
   not-local a b = record { inRange = leb-false (2 ^ (20 + n)) o a; notPrimary = eqb-false (bus o) (r .primary) b }
@@ -89,7 +86,7 @@ module _ (n : ℕ) (r : Registers) (o : ℕ) where
           → When n r o (picked o a b c d e)
       by true b c d e p q s t u = leb-true (2 ^ (20 + n)) o p
       by false true c d e p q s t u = (leb-false (2 ^ (20 + n)) o p, eqb-true (bus o) (r .primary) q, refl)
-      by false false false d e p q s t u = (not-local p q, λ w. no-such (sym s ∙ routed w))
+      by false false false d e p q s t u = (not-local p q, λ w. apart (sym s ∙ routed w))
       by false false true true true p q s t u = (not-local p q, between s, eqb-true (bus o) (r .secondary) t, eqb-true (device o) 0 u)
       by false false true true false p q s t u = (not-local p q, between s, eqb-true (bus o) (r .secondary) t, eqb-false (device o) 0 u)
       by false false true false e p q s t u =
