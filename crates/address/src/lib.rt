@@ -1,19 +1,21 @@
 // Addresses of the two sides, the windows between them, and the rules on settings.
+#![tactic(auto)]
+
 ghost use Rattle.std.specs.Prelude.{◌≡◌, ℕ, ◌-◌, ◌<◌, ◌≤◌};
 ghost use Rattle.address.specs.Windows.{holds, window_of, Placed, translated};
 ghost use Rattle.address.specs.Code.Entries.{entry_number};
 ghost use Rattle.address.specs.Settings.{power_of_two, each, window_right, right_at, apart, apart_at, windows_right, settings_number, example_settings};
 
 // An address on the AXI side.
-#[derive(Drop)]
+#[derive(Clone, Copy)]
 pub struct AxiAddress(pub u64);
 
 // An address on the PCI Express side.
-#[derive(Drop)]
+#[derive(Clone, Copy)]
 pub struct PcieAddress(pub u64);
 
 // Up to six windows; entries past the count are ignored.
-#[derive(Drop)]
+#[derive(Clone, Copy)]
 pub struct Windows {
     pub count: u32,
     pub base: [u64; 6],
@@ -22,7 +24,7 @@ pub struct Windows {
 }
 
 // Bus bits n, the two limits in bytes, the time limit T in ticks, the requester ID.
-#[derive(Drop)]
+#[derive(Clone, Copy)]
 pub struct Settings {
     pub windows: Windows,
     pub bits: u32,
@@ -33,7 +35,7 @@ pub struct Settings {
 }
 
 // Which window holds an address.
-#[derive(Drop)]
+#[derive(Clone, Copy)]
 pub enum Found {
     At(u32),
     Nothing,

@@ -1,4 +1,6 @@
 // The bits of a 32-bit word.
+#![tactic(auto)]
+
 ghost use Rattle.std.specs.Prelude.{◌≡◌};
 ghost use Rattle.bits.specs.Bits.{is_set, set_bit, clear_bit};
 

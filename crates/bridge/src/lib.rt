@@ -1,4 +1,6 @@
 // The bridge: its state by value, and a method for each event that hands back the bridge with its answer.
+#![tactic(auto)]
+
 mod fresh;
 mod methods;
 
@@ -8,7 +10,7 @@ pub use parts::{Answer, ConfigSlot, Core, Figures};
 use parts::{SLOT_CELLS, TAG_CELLS, TAGS};
 pub use refusals::Response;
 
-#[derive(Drop)]
+#[derive(Clone, Copy)]
 pub struct Bridge {
     pub settings: Settings,
     pub core: Core,
@@ -21,7 +23,7 @@ pub struct Bridge {
     pub cells: [u32; DEPTH],
 }
 
-#[derive(Drop)]
+#[derive(Clone, Copy)]
 pub struct Answered {
     pub bridge: Bridge,
     pub answer: Answer,

@@ -1,4 +1,6 @@
 // What a burst covers, its cut at a limit, and the words and byte enables of its pieces.
+#![tactic(auto)]
+
 ghost use Rattle.std.specs.Prelude.{◌≡◌, ◌+◌, ◌*◌, ◌^◌, ◌≤◌, ◌<◌, min, length, take, drop, replicate};
 ghost use Rattle.std.proofs.Math.Seq.{paste};
 ghost use Rattle.burst.specs.Bursts.{end_from, burst_number, length_of, data_number};
@@ -9,7 +11,7 @@ use address::AxiAddress;
 use common::{copy_at, index, zero_at};
 
 // A burst: its start, size code, number of beats and type.
-#[derive(Drop)]
+#[derive(Clone, Copy)]
 pub struct Burst {
     pub start: AxiAddress,
     pub size: u32,
@@ -18,7 +20,7 @@ pub struct Burst {
 }
 
 // A part of a burst that goes into one packet: the address of its first byte, and its bytes.
-#[derive(Drop)]
+#[derive(Clone, Copy)]
 pub struct Piece {
     pub first: u64,
     pub length: u32,

@@ -1,5 +1,7 @@
 // Configuration space: where an access goes, and the request of one that goes out; the registers behind the local words are in
 // a module of their own.
+#![tactic(auto)]
+
 pub mod registers;
 
 ghost use Rattle.std.specs.Prelude.{◌≡◌, cond, List, ℕ, ◌%◌};
@@ -12,7 +14,7 @@ use common::long;
 use registers::Registers;
 use tlp::request::{ConfigAddress, Request, Target};
 
-#[derive(Drop)]
+#[derive(Clone, Copy)]
 pub enum Route {
     OutOfRange,
     Local(u32),

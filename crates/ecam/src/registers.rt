@@ -8,7 +8,7 @@ ghost use Rattle.ecam.specs.Code.Struct.{registers_from};
 
 use messages::queue::{DEPTH, Ring};
 
-#[derive(Drop)]
+#[derive(Clone, Copy)]
 pub struct Registers {
     pub primary: u32,
     pub secondary: u32,

@@ -10,7 +10,7 @@ pub const DEPTH: usize = 32;
 const ENTRIES: u32 = 32;
 
 // Where the oldest entry stands, mod 32, and how many there are.
-#[derive(Drop)]
+#[derive(Clone, Copy)]
 pub struct Ring {
     pub first: u32,
     pub count: u32,

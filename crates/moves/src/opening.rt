@@ -22,7 +22,7 @@ use parts::requests::memory_pending;
 use parts::{CAUSE, Core, FAULT, OPEN, PIECES, SESSION, SIZE, SLOT_CELLS, STATE, TAG_CELLS, TAGS};
 
 // The core after a turn, and where the next packet goes.
-#[derive(Drop)]
+#[derive(Clone, Copy)]
 pub struct Turn {
     pub core: Core,
     pub at: usize,

@@ -1,4 +1,6 @@
 // What is sent for a memory burst: a request for each piece, through the window of the first byte, and a write's words.
+#![tactic(auto)]
+
 ghost use Rattle.std.specs.Prelude.{◌≡◌, [], true, not, ◌+◌, ◌^◌, ◌≤◌, ◌<◌, length, get_or, take, drop, replicate, eqb};
 ghost use Rattle.address.specs.Windows.{axi, window_of, found_number, translated};
 ghost use Rattle.burst.specs.Bursts.{length_of};
@@ -25,7 +27,7 @@ pub fn no_window(w: Windows, a: AxiAddress) -> bool
 }
 
 // What a window adds to an address and takes from it.
-#[derive(Drop)]
+#[derive(Clone, Copy)]
 pub struct Shift {
     pub base: u64,
     pub target: u64,
@@ -80,7 +82,7 @@ pub fn memory_request(write: bool, requester: u32, tag: u32, a: PcieAddress, n: 
 }
 
 // A header in the first bytes of an array, the others zero; none for a request outside its ranges.
-#[derive(Drop)]
+#[derive(Clone, Copy)]
 pub struct Head {
     pub bytes: [u8; 16],
     pub length: usize,

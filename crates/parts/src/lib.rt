@@ -1,4 +1,6 @@
 // The bridge's small parts, passed by value, and the decisions on them, which know no table but what they are given.
+#![tactic(auto)]
+
 pub mod access;
 pub mod answers;
 pub mod cores;
@@ -67,14 +69,14 @@ pub const SESSION: usize = 5 * SLOTS;
 pub const SLOT_CELLS: usize = 6 * SLOTS;
 
 // The figures of a kept answer. Only an accepted release reports them; every other answer has 0 for each.
-#[derive(Drop)]
+#[derive(Clone, Copy)]
 pub struct Figures {
     // The session in which the access was accepted.
     pub session: u32,
 }
 
 // The configuration slot.
-#[derive(Drop)]
+#[derive(Clone, Copy)]
 pub struct ConfigSlot {
     // FREE, OPEN or FINISHED.
     pub state: u32,
@@ -87,7 +89,7 @@ pub struct ConfigSlot {
 
 // What is kept of a request by its tag: the slot of its bytes (8 for configuration), their place there, how many, the PCIe
 // address of the first mod 128, and the kind.
-#[derive(Drop)]
+#[derive(Clone, Copy)]
 pub struct Pending {
     pub slot: u32,
     pub place: u32,
@@ -97,7 +99,7 @@ pub struct Pending {
 }
 
 // What is not a table: small enough to pass by value. The queued error messages stand in cells that are lent beside it.
-#[derive(Drop)]
+#[derive(Clone, Copy)]
 pub struct Core {
     pub registers: Registers,
     pub ticks: u32,
@@ -108,7 +110,7 @@ pub struct Core {
     pub config: ConfigSlot,
 }
 
-#[derive(Drop)]
+#[derive(Clone, Copy)]
 pub struct Answer {
     // The refusal number, 0 for accepted.
     pub number: u32,
@@ -121,7 +123,7 @@ pub struct Answer {
 }
 
 // What an event on lent tables hands back.
-#[derive(Drop)]
+#[derive(Clone, Copy)]
 pub struct Done {
     pub core: Core,
     pub answer: Answer,

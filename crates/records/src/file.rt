@@ -7,7 +7,7 @@ use crate::reading::next;
 use crate::{Fault, Found};
 
 // How a file ends.
-#[derive(Drop)]
+#[derive(Clone, Copy)]
 pub enum Verdict {
     // With a right end record, after so many events.
     Ended(u64),
@@ -17,7 +17,7 @@ pub enum Verdict {
     Bad(Fault, u64),
 }
 
-#[derive(Drop)]
+#[derive(Clone, Copy)]
 pub struct Summary {
     pub verdict: Verdict,
     pub events: u64,

@@ -1,5 +1,7 @@
 // The records of a capture: a writer, a reader of the record that bytes begin with, and a reader that is fed a file in any
 // parts. docs/CAPTURE.md has the format.
+#![tactic(auto)]
+
 pub mod file;
 pub mod reading;
 pub mod stream;
@@ -8,7 +10,7 @@ pub mod writing;
 use burst::Burst;
 
 // An event of a capture, as far as it is numbers. A write's data and a completion's bytes are lent beside it.
-#[derive(Drop)]
+#[derive(Clone, Copy)]
 pub enum Event {
     Read(Burst),
     Write(Burst),
@@ -24,7 +26,7 @@ pub enum Event {
 }
 
 // What is wrong with a record.
-#[derive(Drop)]
+#[derive(Clone, Copy)]
 pub enum Fault {
     Kind,
     Length,
@@ -33,7 +35,7 @@ pub enum Fault {
 }
 
 // What bytes begin with.
-#[derive(Drop)]
+#[derive(Clone, Copy)]
 pub enum Found {
     // Nothing, or a part of a record in which no fault is known yet.
     More,
@@ -45,7 +47,7 @@ pub enum Found {
 }
 
 // What a writer writes. A message has no record.
-#[derive(Drop)]
+#[derive(Clone, Copy)]
 pub enum Item {
     Event(Event),
     End(u64),
@@ -53,14 +55,14 @@ pub enum Item {
 }
 
 // What a writer answers: the refusal's number, and how many bytes it filled.
-#[derive(Drop)]
+#[derive(Clone, Copy)]
 pub struct Written {
     pub number: u32,
     pub length: usize,
 }
 
 // How far a reader has come.
-#[derive(Drop)]
+#[derive(Clone, Copy)]
 pub enum Phase {
     Reading,
     Ended,
@@ -68,7 +70,7 @@ pub enum Phase {
 }
 
 // A reader that is fed a file in parts. The bytes of a record that is not yet whole stand in a buffer that its caller lends.
-#[derive(Drop)]
+#[derive(Clone, Copy)]
 pub struct Reader {
     // Where the present record begins in the file.
     pub at: u64,

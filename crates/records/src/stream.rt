@@ -9,7 +9,7 @@ use crate::{Event, Found, LONGEST, Phase, Reader};
 use refusals::TOO_SHORT;
 
 // The event that was completed, and where its record stands.
-#[derive(Drop)]
+#[derive(Clone, Copy)]
 pub enum Got {
     Nothing,
     // In the bytes that were read, all of them.
@@ -19,7 +19,7 @@ pub enum Got {
 }
 
 // How far the reader came.
-#[derive(Drop)]
+#[derive(Clone, Copy)]
 pub struct Came {
     // 8 where the buffer is too short, else 0.
     pub number: u32,

@@ -25,7 +25,7 @@ const COUNTS: u64 = 4294967296;
 
 // A record in numbers: its kind; its fields with their padding, as far as they go, in the bytes of `high` and two bytes `low`
 // behind them; and how many of the bytes lent beside it follow.
-#[derive(Drop)]
+#[derive(Clone, Copy)]
 struct Parts {
     kind: u32,
     high: u64,

@@ -1,10 +1,12 @@
 // 01's refusal table: the responses, and the numbers that the code names.
+#![tactic(auto)]
+
 ghost use Rattle.std.specs.Prelude.{◌≡◌};
 ghost use Rattle.refusals.specs.Table.{refusal_response};
 ghost use Rattle.refusals.specs.Responses.{code_of};
 
 // What a call reports to the AXI side.
-#[derive(Drop)]
+#[derive(Clone, Copy)]
 pub enum Response {
     Nothing,
     Okay,

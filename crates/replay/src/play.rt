@@ -53,7 +53,7 @@ fn told_in(
 }
 
 // What a turn hands back.
-#[derive(Drop)]
+#[derive(Clone, Copy)]
 pub struct Turn {
     pub core: Core,
     pub reader: Reader,

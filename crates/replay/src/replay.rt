@@ -12,7 +12,7 @@ use bridge::Bridge;
 use records::{LONGEST, Reader};
 use refusals::TOO_SHORT;
 
-#[derive(Drop)]
+#[derive(Clone, Copy)]
 pub struct Replayed {
     // 8 where the reader's buffer or the rows are too short, else 0.
     pub number: u32,

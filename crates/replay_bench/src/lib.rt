@@ -1,4 +1,6 @@
 // What bench/replay times: a capture played from its start on the bridge of the worked examples.
+#![tactic(auto)]
+
 ghost use Rattle.std.specs.Prelude.{◌≡◌, ◌+◌, ◌≤◌};
 
 use bridge::Bridge;

@@ -1,1 +1,2 @@
 // Only specs/ and proofs/ have text; no code is added.
+#![tactic(auto)]

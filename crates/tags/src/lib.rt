@@ -1,4 +1,6 @@
 // The free tags, as the ones of a word.
+#![tactic(auto)]
+
 ghost use Rattle.std.specs.Prelude.{◌≡◌};
 ghost use Rattle.bits.specs.Bits.{set_bit, clear_bit};
 ghost use Rattle.tags.specs.Tags.{lowest, available};

@@ -6,7 +6,7 @@ ghost use Rattle.tlp.specs.Completion.{valid_payload, valid_completion, completi
 use crate::{Laid, Written, length_in};
 use common::{copy_at, wide};
 
-#[derive(Drop)]
+#[derive(Clone, Copy)]
 pub struct Completion {
     // With data.
     pub payload: bool,
@@ -27,7 +27,7 @@ pub struct Completion {
 }
 
 // What a reader finds.
-#[derive(Drop)]
+#[derive(Clone, Copy)]
 pub enum CompletionRead {
     Header(Completion),
     Malformed,

@@ -1,4 +1,6 @@
 // Headers of transaction layer packets (TLPs): requests and completions as values, their readers and writers.
+#![tactic(auto)]
+
 pub mod completion;
 pub mod packet;
 pub mod request;
@@ -7,14 +9,14 @@ ghost use Rattle.std.specs.Prelude.{◌≡◌};
 ghost use Rattle.tlp.specs.Bytes.{length_in};
 
 // What a writer answers: the number of its refusal, or 0 and how many bytes it wrote.
-#[derive(Drop)]
+#[derive(Clone, Copy)]
 pub struct Written {
     pub number: u32,
     pub length: usize,
 }
 
 // A header in the first bytes of an array.
-#[derive(Drop)]
+#[derive(Clone, Copy)]
 struct Laid {
     bytes: [u8; 16],
     length: usize,

@@ -7,7 +7,7 @@ use crate::{Laid, Written, length_in};
 use common::{copy_at, wide, wide64};
 
 // Where a configuration request goes.
-#[derive(Drop)]
+#[derive(Clone, Copy)]
 pub struct ConfigAddress {
     pub bus: u32,
     pub device: u32,
@@ -17,7 +17,7 @@ pub struct ConfigAddress {
     pub register: u32,
 }
 
-#[derive(Drop)]
+#[derive(Clone, Copy)]
 pub enum Target {
     // A PCIe address. Below 2^32 the header has 3 words, else 4.
     Memory(u64),
@@ -25,7 +25,7 @@ pub enum Target {
     Config1(ConfigAddress),
 }
 
-#[derive(Drop)]
+#[derive(Clone, Copy)]
 pub struct Request {
     pub write: bool,
     pub target: Target,
@@ -41,14 +41,14 @@ pub struct Request {
 }
 
 // What a reader finds.
-#[derive(Drop)]
+#[derive(Clone, Copy)]
 pub enum RequestRead {
     Header(Request),
     Malformed,
 }
 
 // The layout that byte 0 names, but for its write bit.
-#[derive(Drop)]
+#[derive(Clone, Copy)]
 enum Format {
     Memory3,
     Memory4,
@@ -57,14 +57,14 @@ enum Format {
     Other,
 }
 
-#[derive(Drop)]
+#[derive(Clone, Copy)]
 enum TargetRead {
     At(Target),
     Wrong,
 }
 
 // A header's bytes from byte 8 on.
-#[derive(Drop)]
+#[derive(Clone, Copy)]
 struct Tail {
     bytes: [u8; 8],
     length: usize,

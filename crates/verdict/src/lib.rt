@@ -1,4 +1,6 @@
 // What a completion does to the piece whose tag it has: a decision on numbers, which knows no bridge.
+#![tactic(auto)]
+
 ghost use Rattle.std.specs.Prelude.{◌≡◌};
 ghost use Rattle.verdict.specs.Verdict.{is_open, is_unexpected, cause_of, useful, in_order, received, memory_verdict, config_shape, config_verdict, cause_response, cause_bit};
 
@@ -9,7 +11,7 @@ use common::{
 use tlp::completion::Completion;
 
 // Why a piece failed: UR, CRS or CA, poisoned data, no completion in time.
-#[derive(Drop)]
+#[derive(Clone, Copy)]
 pub enum Cause {
     UnsupportedRequest,
     RequestRetry,
@@ -19,7 +21,7 @@ pub enum Cause {
 }
 
 // What a completion does to the piece whose tag it has. The numbers are useful bytes.
-#[derive(Drop)]
+#[derive(Clone, Copy)]
 pub enum Verdict {
     Unexpected,
     Good(u32),

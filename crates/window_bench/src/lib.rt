@@ -1,5 +1,7 @@
 // What bench/ times: the choice of a window, by itself and as an access of the bridge makes it. Each export stands here twice,
 // with the present choice and, `_former`, with the one before request A3.
+#![tactic(auto)]
+
 mod former;
 
 ghost use Rattle.std.specs.Prelude.{◌≡◌};

@@ -1,4 +1,6 @@
 // A bridge whose windows are a list of records that the caller lends: read one by one, then as with plain arrays.
+#![tactic(auto)]
+
 ghost use Rattle.std.specs.Prelude.{◌≡◌, take};
 ghost use Rattle.machine.specs.State.{new_bridge};
 ghost use Rattle.bridge.specs.View.{step_of};
@@ -8,7 +10,7 @@ use address::{Settings, Windows};
 use bridge::{Answered, Bridge};
 
 // One window: its base on the AXI side, its size in bytes, its target on the PCIe side.
-#[derive(Drop)]
+#[derive(Clone, Copy)]
 pub struct Window {
     pub base: u64,
     pub size: u64,
@@ -16,7 +18,7 @@ pub struct Window {
 }
 
 // The settings beside the windows, as in Settings.
-#[derive(Drop)]
+#[derive(Clone, Copy)]
 pub struct Others {
     pub bits: u32,
     pub reads: u32,
