@@ -1,22 +1,20 @@
 -- A valid completion's header reads back as it, and accepted bytes write back as themselves.
-use mathlib.Core.Path.{◌≡◌, refl, sym, ap, ◌∙◌}
+use mathlib.Core.Path.{◌≡◌, refl, sym, ◌∙◌}
 use mathlib.Core.Bool.{Bool, true, false, cond, not, ◌&&◌, ◌||◌}
-use mathlib.Core.Logic.{◌⊎◌, ⊎_elim}
+use mathlib.Core.Logic.{⊎_elim}
 use mathlib.Core.List.{List, [], ◌∷◌}
 use Prim.Native.Nat.{ℕ, ◌+◌, ◌*◌, ◌/◌, ◌%◌, ◌≤◌, ◌<◌}
-use native.Mathlib.Decide.{ℕ_discrete}
 use native.Mathlib.Nat.{mod-eq_of_lt}
 use native.Mathlib.Omega.{arith}
 use lib.Dec.{ltb, leb, eqb, lit≤}
 use lib.ListN.{length}
 use borrow.Author.Tests.{lt-ltb, le-leb, lt-leb, leb-true, leb-false, eqb-true, eq-eqb, ne_eqb, ltb-true, not-true}
 use Rattle.common.proofs.Tests.{row, holds, or_either}
-use Rattle.common.proofs.Cells.{cells, cells_all}
+use Rattle.common.proofs.Cells.{cells_all}
 use Rattle.tlp.specs.declared.completion.Completion.{Completion}
-use Rattle.tlp.specs.declared.completion.CompletionRead.{CompletionRead}
 use Rattle.tlp.specs.declared.completion.CompletionRead.TheVariants.{Header, Malformed}
-use Rattle.tlp.specs.Bytes.{byte, flag, length_in}
-use Rattle.tlp.specs.Completion.{valid_payload, valid_completion, completion_bytes, payload_length, count_in, completion_in, completion_reserved, accept_completion, read_completion}
+use Rattle.tlp.specs.Bytes.{byte, flag}
+use Rattle.tlp.specs.Completion.{valid_payload, valid_completion, completion_bytes, payload_length, completion_in, completion_reserved, accept_completion, read_completion}
 use Rattle.tlp.specs.Laws.{Bytes}
 use Rattle.tlp.proofs.Ranges.{CompletionRanges, completion_ranges}
 use Rattle.tlp.proofs.Codec.{no_path, cell, full_back, full_there}

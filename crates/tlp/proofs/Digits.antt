@@ -1,6 +1,6 @@
 -- A number and its bytes, there and back, for any number of bytes.
 use mathlib.Core.Path.{◌≡◌, refl, sym, ap, ◌∙◌}
-use mathlib.Core.List.{List, [], ◌∷◌}
+use mathlib.Core.List.{List, ◌∷◌}
 use Prim.Native.Nat.{ℕ, zero, suc, ◌+◌, ◌*◌, ◌/◌, ◌%◌, ◌^◌, ◌<◌}
 use native.Mathlib.Nat.{pow-suc, pow-succ', mod-one, mod-eq_of_lt, mul_assoc, mul-add-div_right, mul-add-mod_self_right}
 use native.Mathlib.Omega.{arith}

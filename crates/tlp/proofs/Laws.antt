@@ -1,6 +1,5 @@
 -- The laws of specs/Laws.antt, for both kinds of header.
 use mathlib.Core.Path.{◌≡◌, refl}
-use Prim.Native.Nat.{ℕ}
 use Rattle.tlp.specs.declared.request.Request.{Request}
 use Rattle.tlp.specs.declared.request.RequestRead.{RequestRead}
 use Rattle.tlp.specs.declared.request.RequestRead.TheVariants as request

@@ -1,9 +1,9 @@
 -- The ranges of a valid header value, one by one.
 use mathlib.Core.Path.{◌≡◌}
 use mathlib.Core.Bool.{true}
-use mathlib.Core.List.{List, [], ◌∷◌}
+use mathlib.Core.List.{[], ◌∷◌}
 use lib.Dec.{ltb, leb}
-use Prim.Native.Nat.{ℕ, ◌<◌, ◌≤◌, ◌^◌}
+use Prim.Native.Nat.{◌<◌, ◌≤◌, ◌^◌}
 use borrow.Author.Tests.{ltb-true, leb-true}
 use Rattle.common.proofs.Tests.{row}
 use Rattle.tlp.specs.declared.request.ConfigAddress.{ConfigAddress}

@@ -18,10 +18,9 @@ use Rattle.tlp.specs.declared.request.Format.{Format}
 use Rattle.tlp.specs.declared.request.Format.TheVariants.{Memory3, Memory4, Type0, Type1, Other}
 use Rattle.tlp.specs.declared.request.TargetRead.{TargetRead}
 use Rattle.tlp.specs.declared.request.TargetRead.TheVariants.{At, Wrong}
-use Rattle.tlp.specs.declared.request.RequestRead.{RequestRead}
 use Rattle.tlp.specs.declared.request.RequestRead.TheVariants.{Header, Malformed}
 use Rattle.tlp.specs.Bytes.{bytes, byte, number}
-use Rattle.tlp.specs.Request.{valid_config, valid_target, valid_request, format_type, config_bytes, address_bytes, target_bytes, request_bytes, format_of, config_in, target_in, request_in, request_reserved, accept_request, read_with, read_request}
+use Rattle.tlp.specs.Request.{valid_config, valid_target, valid_request, format_type, config_bytes, target_bytes, request_bytes, format_of, config_in, target_in, request_in, request_reserved, read_with, read_request}
 use Rattle.tlp.specs.Laws.{Bytes, Address, ValidRequest}
 use Rattle.tlp.proofs.Ranges.{ConfigRanges, config_ranges, RequestRanges, request_ranges}
 use Rattle.tlp.proofs.Reading.{read_at_lem}

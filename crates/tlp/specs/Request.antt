@@ -1,5 +1,5 @@
 -- Document 01, 'Header bytes': requests.
-use Rattle.std.specs.Prelude.{ℕ, ◌+◌, ◌*◌, ◌/◌, ◌%◌, ◌^◌, List, [], ◌∷◌, ◌++◌, Bool, true, false, cond, not, ◌&&◌, ◌||◌, length, ltb, leb, eqb}
+use Rattle.std.specs.Prelude.{ℕ, ◌+◌, ◌*◌, ◌/◌, ◌%◌, ◌^◌, List, [], ◌∷◌, Bool, true, false, cond, not, ◌&&◌, ◌||◌, length, ltb, leb, eqb}
 use Rattle.tlp.specs.declared.Written.{Written}
 use Rattle.tlp.specs.declared.request.ConfigAddress.{ConfigAddress}
 use Rattle.tlp.specs.declared.request.Target.{Target}
