@@ -1,7 +1,6 @@
-use Rattle.std.proofs.Common.{◌≡◌, suc, ◌+◌, ◌-◌, ◌≤◌, sym, ap, ◌∙◌, zero-le, arith}
+use Rattle.std.proofs.Common.{◌≡◌, suc, ◌+◌, ◌-◌, sym, ap, ◌∙◌, zero-le, arith}
 use native.Mathlib.Nat.{sub-zero}
-use borrow.Author.Tests.{not-true, not-false}
-use Rattle.address.specs.Settings.{each, each_from, right_at}
+use Rattle.address.specs.Settings.{each_from, right_at}
 use Rattle.address.proofs.Steps.{each_none, each_stop, each_on}
 use Rattle.address.proofs.each_right.Goals as goal
 

@@ -1,8 +1,5 @@
-use Rattle.std.proofs.Common.{◌≡◌, suc, ◌+◌, ◌-◌, ◌≤◌, sym, ap, ◌∙◌, zero-le, arith}
-use native.Mathlib.Nat.{sub-zero}
-use borrow.Author.Tests.{not-true, not-false}
+use Rattle.std.proofs.Common.{◌≡◌, ◌-◌, ◌≤◌}
 use Rattle.address.specs.Settings.{each, each_from, right_at}
-use Rattle.address.proofs.Steps.{each_none, each_stop, each_on}
 use Rattle.address.proofs.each_right.Given as goal
 
 -- The invariant: every window passed is right.

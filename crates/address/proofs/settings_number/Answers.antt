@@ -1,5 +1,5 @@
-use Rattle.std.proofs.Common.{◌^◌, sym, ◌∙◌, arith, rules, le-ltb, lt-ltb, le-leb}
-use borrow.Author.Tests.{not-true, not-false, lt-leb}
+use Rattle.std.proofs.Common.{◌^◌, sym, ◌∙◌, arith, le-ltb, lt-ltb, le-leb}
+use borrow.Author.Tests.{lt-leb}
 use Rattle.address.specs.Settings.{settings_right, settings_number}
 use Rattle.address.proofs.settings_number.Goals as goal
 

@@ -1,5 +1,5 @@
-use Rattle.std.proofs.Common.{sym, ◌∙◌, rules, le-leb}
-use borrow.Author.Tests.{not-true, not-false, lt-leb}
+use Rattle.std.proofs.Common.{sym, ◌∙◌, le-leb}
+use borrow.Author.Tests.{lt-leb}
 use Rattle.address.specs.Settings.{windows_right}
 use Rattle.address.proofs.Steps.{and_true}
 use Rattle.address.proofs.windows_right.Goals as goal
