@@ -1,15 +1,14 @@
 use Rattle.packets.proofs.Packets.{put_none, put_out, no_header, packet_length, put_whole}
 use native.Mathlib.Omega.{arith}
-use mathlib.Core.Path.{◌≡◌, refl, sym, ap, ◌∙◌}
+use mathlib.Core.Path.{◌≡◌, sym, ap, ◌∙◌}
 use mathlib.Core.Bool.{true}
-use mathlib.Core.List.{List, [], ◌++◌}
-use Prim.Native.Nat.{ℕ, ◌+◌, ◌*◌}
-use lib.ListN.{length, take, drop, length-append, length-take, length-drop}
-use lib.Seq.{paste, length-paste, length-take-le}
+use mathlib.Core.List.{[]}
+use Prim.Native.Nat.{◌+◌, ◌*◌}
+use lib.ListN.{length, take, drop}
+use lib.Seq.{paste, length-paste}
 use Rattle.burst.specs.Words.{word_count, words_of}
-use Rattle.burst.proofs.Words.{words_length}
 use Rattle.packets.specs.Packets.{memory_request, packet}
-use Rattle.packets.proofs.Packets.{put_none, put_out, put_here, no_header, goes_on, paste_head, paste_two}
+use Rattle.packets.proofs.Packets.{put_none, put_out, no_header}
 use borrow.Author.Rules.{rules}
 use Rattle.packets.proofs.put_packet.Goals as goal
 
@@ -54,7 +53,7 @@ put_words-requires c =
     (omega (arith, i, k, z, c.if-area-at.false, c.requires.1.1), omega (arith, c.index-2.ensures.0, c.requires.0))
 
 pub overflow_add-result : goal.overflow_add-result
-overflow_add-result c = omega (arith, c.if-area-at.false, c.well-formed, c.requires.1.1)
+overflow_add-result c = omega (arith, c.if-area-at.false, c.well_formed, c.requires.1.1)
 
 pub returns : goal.returns
 returns c =

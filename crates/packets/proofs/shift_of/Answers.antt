@@ -1,4 +1,3 @@
-use borrow.Author.Rules.{rules}
 use Rattle.packets.proofs.shift_of.Goals as goal
 
 pub one_of-requires : goal.one_of-requires

@@ -1,11 +1,9 @@
-use borrow.Author.Rules.{rules}
 use native.Mathlib.Omega.{arith}
-use mathlib.Core.Path.{◌≡◌, refl, sym, ap, ◌∙◌}
-use Prim.Native.Nat.{ℕ, ◌+◌, ◌-◌, ◌≤◌, zero-le}
-use lib.ListN.{length}
+use mathlib.Core.Path.{◌≡◌, ap, ◌∙◌}
+use Prim.Native.Nat.{zero-le}
 use Rattle.burst.specs.Pieces.{piece_count}
 use Rattle.packets.specs.Packets.{pieces_of}
-use Rattle.packets.proofs.Writing.{Wrote, wrote_none, wrote_more}
+use Rattle.packets.proofs.Writing.{wrote_none, wrote_more}
 use Rattle.packets.proofs.write_pieces.Goals as goal
 
 pub shift_of-shift-requires : goal.shift_of-shift-requires

@@ -1,11 +1,5 @@
-use borrow.Author.Rules.{rules}
-use native.Mathlib.Omega.{arith}
-use mathlib.Core.Path.{◌≡◌, refl, sym, ap, ◌∙◌}
-use Prim.Native.Nat.{ℕ, ◌+◌, ◌-◌, ◌≤◌, zero-le}
-use lib.ListN.{length}
-use Rattle.burst.specs.Pieces.{piece_count}
-use Rattle.packets.specs.Packets.{pieces_of}
-use Rattle.packets.proofs.Writing.{Wrote, wrote_none, wrote_more}
+use Prim.Native.Nat.{◌-◌, ◌≤◌}
+use Rattle.packets.proofs.Writing.{Wrote}
 use Rattle.packets.proofs.write_pieces.Given as goal
 
 abbrev pub invariant-loop-k : goal.invariant-loop-k
