@@ -1,7 +1,5 @@
-use Prim.Native.Nat.{◌-◌}
 use native.Mathlib.Omega.{arith}
-use lib.ListN.{length}
-use Rattle.records.proofs.Files.{Far, start, part_all, stops_more, stops_bad, stops_end, sized, goes}
+use Rattle.records.proofs.Files.{start, part_all, stops_more, stops_bad, stops_end, sized, goes}
 use borrow.Author.Rules.{rules}
 use Rattle.records.proofs.file.verdict_of.Goals as goal
 

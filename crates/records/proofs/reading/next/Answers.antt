@@ -1,9 +1,7 @@
-use Rattle.records.proofs.Bodies.{kept}
 use Prim.Native.Nat.{◌+◌, ◌/◌}
 use borrow.Author.Tests.{lt-ltb, le-ltb, lt-leb, le-leb}
 use lib.ListN.{length}
 use Rattle.records.specs.Reading.{next}
-use borrow.Author.Rules.{rules}
 use Rattle.records.proofs.reading.next.Goals as goal
 
 pub returns-then-s-lt1 : goal.returns-then-s-lt1
@@ -31,7 +29,7 @@ whole_in-requires c = (
   c.if-s-lt-HEAD.false,
   (
     rw (← c.wide-kind.ensures.0),
-    (c.if-kind-ge8.false, (rw (← c.body_in-body.ensures.0, ← c.length_fits.ensures) (kept c.length_fits.result c.if-not-length_fits.false), (rw (← c.body_in-body.ensures.0, c.index-size.ensures.0), c.if-s-size.false))),
+    (c.if-kind-ge8.false, (rw (← c.body_in-body.ensures.0, ← c.length_fits.ensures) c.if-not-length_fits.false, (rw (← c.body_in-body.ensures.0, c.index-size.ensures.0), c.if-s-size.false))),
   ),
 )
 

@@ -2,7 +2,6 @@ use mathlib.Core.Path.{refl}
 use lib.ListN.{take}
 use Rattle.records.specs.Code.Meaning.{reader_of}
 use Rattle.records.proofs.Stepping.{in_place, byte_step}
-use borrow.Author.Rules.{rules}
 use Rattle.records.proofs.stream.advance.Goals as goal
 
 pub returns-in-Whole : goal.returns-in-Whole

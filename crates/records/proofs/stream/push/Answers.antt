@@ -4,7 +4,6 @@ use native.Mathlib.Omega.{arith}
 use lib.ListN.{set, length-set}
 use lib.Seq.{length-take-le}
 use Rattle.records.proofs.Pushing.{pushes, settled_plain}
-use borrow.Author.Rules.{rules}
 use Rattle.records.proofs.stream.push.Goals as goal
 
 pub slice_bounds-next-end : goal.slice_bounds-next-end

@@ -1,10 +1,8 @@
-use mathlib.Core.Path.{◌≡◌, refl, sym, ap, ◌∙◌}
+use mathlib.Core.Path.{refl, sym, ap, ◌∙◌}
 use mathlib.Core.List.{[]}
-use Prim.Native.Nat.{◌+◌, ◌-◌, ◌≤◌}
+use Prim.Native.Nat.{◌+◌}
 use native.Mathlib.Omega.{arith}
-use borrow.Author.Tests.{not-true, not-false}
-use lib.ListN.{length, take, drop, drop_of_length-le}
-use Rattle.records.specs.Code.Steps.{later}
+use lib.ListN.{take, drop, drop_of_length-le}
 use Rattle.records.specs.Code.Meaning.{reader_of}
 use Rattle.records.specs.Stream.{next_event}
 use Rattle.records.proofs.Onward.{stopped, halts, no_event, an_event}

@@ -1,14 +1,9 @@
-use mathlib.Core.Path.{◌≡◌, refl, sym, ap, ◌∙◌}
-use mathlib.Core.List.{[]}
-use Prim.Native.Nat.{◌+◌, ◌-◌, ◌≤◌}
-use native.Mathlib.Omega.{arith}
-use borrow.Author.Tests.{not-true, not-false}
-use lib.ListN.{length, take, drop, drop_of_length-le}
+use mathlib.Core.Path.{◌≡◌}
+use Prim.Native.Nat.{◌-◌, ◌≤◌}
+use lib.ListN.{length, drop}
 use Rattle.records.specs.Code.Steps.{later}
 use Rattle.records.specs.Code.Meaning.{reader_of}
 use Rattle.records.specs.Stream.{next_event}
-use Rattle.records.proofs.Onward.{stopped, halts, no_event, an_event}
-use borrow.Author.Rules.{rules}
 use Rattle.records.proofs.stream.push_on.Given as goal
 
 abbrev pub invariant-loop-at : goal.invariant-loop-at

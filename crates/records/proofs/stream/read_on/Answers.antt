@@ -1,9 +1,7 @@
 use mathlib.Core.Path.{refl, sym, ◌∙◌}
-use borrow.Author.Tests.{not-true, not-false}
 use lib.ListN.{take}
 use Rattle.records.specs.Code.Meaning.{reader_of}
 use Rattle.records.proofs.Onward.{short_buffer, read_by, no_input, stopped, none_first, event_first}
-use borrow.Author.Rules.{rules}
 use Rattle.records.proofs.stream.read_on.Goals as goal
 
 pub returns-then-held-lt-LONGEST : goal.returns-then-held-lt-LONGEST
