@@ -1,5 +1,3 @@
-use mathlib.Core.Path.{◌≡◌, refl, sym, ap, ◌∙◌}
-use borrow.Author.Rules.{rules}
 use Rattle.moves.proofs.routed.routed_in.Goals as goal
 
 pub returns : goal.returns

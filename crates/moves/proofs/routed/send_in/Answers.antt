@@ -1,4 +1,4 @@
-use mathlib.Core.Path.{refl, sym, ap, ◌∙◌}
+use mathlib.Core.Path.{refl, ◌∙◌}
 use mathlib.Core.List.{append-nil}
 use native.Mathlib.Omega.{arith}
 use lib.ListN.{length-append}
@@ -8,7 +8,6 @@ use Rattle.tlp.specs.Request.{valid_request, request_bytes}
 use Rattle.packets.specs.Packets.{packet}
 use Rattle.machine.specs.Routed.{payload_of}
 use Rattle.moves.proofs.Sending.{header_fits, nothing_sent, header_sent, room_behind, data_sent}
-use borrow.Author.Rules.{rules}
 use Rattle.moves.proofs.routed.send_in.Goals as goal
 
 pub returns-then-header-ne0 : goal.returns-then-header-ne0
