@@ -87,7 +87,10 @@ module _ (kind : ℕ) (values plain z : List ℕ) (f : fits_kind kind values pla
       let x = fields_number kind values in
       let here : number ((bytes n x ++ plain) ++ z) 0 n ≡ x =
       rw (append_assoc (bytes n x) plain z) (number_there n x (plain ++ z) (fields_lt kind values plain f)) in
-      ?
+      let r : List ℕ = (bytes n x ++ plain) ++ z in
+      let high = body_size kind plain / 256 ^ 1 % 256 in
+      let low = body_size kind plain / 256 ^ 0 % 256 in
+      number_behind (kind * 16) (high ∷ low ∷ r) 2 n ∙ number_behind high (low ∷ r) 1 n ∙ number_behind low r 0 n ∙ here
 
   values_there : values_in s ≡ values
   values_there =
