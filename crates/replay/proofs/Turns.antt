@@ -3,7 +3,7 @@ use mathlib.Core.Path.{◌≡◌, refl, sym, ap, ◌∙◌, subst}
 use mathlib.Core.List.{List, [], ◌∷◌, ◌++◌, append-nil}
 use mathlib.Core.Option.{Option, none, some}
 use mathlib.Core.Bool.{true}
-use Prim.Native.Nat.{ℕ, zero, suc, ◌+◌, ◌-◌, ◌<◌, ◌≤◌, zero-le}
+use Prim.Native.Nat.{ℕ, suc, ◌+◌, ◌-◌, ◌<◌, ◌≤◌}
 use native.Mathlib.Nat.{zero-add, sub-zero}
 use native.Mathlib.Omega.{arith}
 use lib.ListN.{length, take, drop, take-append-drop}
@@ -14,7 +14,7 @@ use Rattle.records.specs.Stream.{Reader, is_reading, Pushed, pushed, push}
 use Rattle.records.specs.Code.Steps.{Steps, last, then}
 use Rattle.parts.specs.declared.Answer.{Answer}
 use Rattle.replay.specs.Events.{Told, tells, Stage, played, row_of}
-use Rattle.replay.specs.Play.{Playing, playing, Played, more, counts, staged, play}
+use Rattle.replay.specs.Play.{playing, Played, more, counts, staged, play}
 use Rattle.replay.specs.Code.Tables.{Does, Turned}
 
 one_more_lem : (n m : ℕ) (x : Played) → more 0 1 (more n m x) ≡ more n (suc m) x

@@ -1,5 +1,5 @@
 -- One event of a capture, played: the definitions of the bridge's calls, on the store and the sending area that a player lends.
-use Rattle.std.specs.Prelude.{ℕ, List, [], ◌∷◌, ◌++◌, Bool, true, false, cond, length}
+use Rattle.std.specs.Prelude.{ℕ, List, [], ◌∷◌, ◌++◌, true, false, cond, length}
 use Rattle.refusals.specs.Responses.{code_of}
 use Rattle.parts.specs.declared.Answer.{Answer}
 use Rattle.machine.specs.State.{Answered}
