@@ -1,5 +1,5 @@
 -- A walk over some windows and the longer walk over all six: the count may be looked at last.
-use Rattle.std.proofs.Common.{◌≡◌, ℕ, zero, suc, ◌+◌, ◌-◌, ◌<◌, ◌≤◌, min, Bool, true, false, cond, ltb, List, get_or, sym, refl, ap, ◌∙◌, arith, le-ltb, lt-ltb}
+use Rattle.std.proofs.Common.{◌≡◌, ℕ, zero, suc, ◌+◌, ◌<◌, ◌≤◌, min, Bool, true, false, cond, ltb, List, get_or, sym, refl, ap, ◌∙◌, arith, le-ltb, lt-ltb}
 use Rattle.address.specs.declared.AxiAddress.{AxiAddress}
 use Rattle.address.specs.declared.Found.{Found}
 use Rattle.address.specs.declared.Found.TheVariants.{At, Nothing}

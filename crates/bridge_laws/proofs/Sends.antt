@@ -1,7 +1,7 @@
 -- What accepted calls send.
 use mathlib.Core.Path.{◌≡◌, refl, sym, ap, ◌∙◌}
 use mathlib.Core.Bool.{true, false}
-use mathlib.Core.List.{List, [], ◌++◌, flat_map, append_assoc, append_nil}
+use mathlib.Core.List.{List, [], ◌++◌, flat_map, append_assoc, append-nil}
 use Prim.Native.Nat.{ℕ, zero, suc, ◌+◌, ◌-◌, ◌*◌, ◌≤◌, ◌<◌}
 use native.Mathlib.Omega.{arith}
 use borrow.Author.Tests.{le-leb, lt-ltb}
@@ -35,7 +35,7 @@ use Rattle.bridge_laws.proofs.Behind.{row_behind, low_bits_behind, piece_inside,
 -- one more at the end
 flat_from : (f : ℕ → List ℕ) (n a : ℕ) → flat_map f (addresses a (suc n)) ≡ flat_map f (addresses a n) ++ f (a + n)
 unfolding flat_map addresses
-flat_from f zero a = let e : a + 0 ≡ a = omega arith in rw e (append_nil (f a))
+flat_from f zero a = let e : a + 0 ≡ a = omega arith in rw e (append-nil (f a))
 flat_from f (suc n) a =
     let e : suc a + n ≡ a + suc n = omega arith in
     ap (◌++◌ (f a)) (flat_from f n (suc a) ∙ ap (λ (k : ℕ). flat_map f (addresses (suc a) n) ++ f k) e)

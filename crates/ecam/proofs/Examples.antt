@@ -9,8 +9,8 @@ use Rattle.ecam.specs.Request.{config_request, config_target, config_address}
 use Rattle.ecam.specs.Registers.{some, decode_bits, is_decode_bit, error_bits, is_error_bit, strobe, strobed, reached, clears, shown, cleared, masked, status, local_read, local_write, raised, messaged, fresh}
 use Rattle.bits.specs.Bits.{bit, is_set, from_bits, set_bit}
 use Rattle.messages.specs.Layout.{entry_of}
-use Rattle.ecam.specs.Route.{out_of_range, route, number_of}
-use Rattle.ecam.specs.Examples.{W7, W8, W9, W12, DeviceFive, buses, OneMessage, ThreeMessages, ManyMessages, AllMasked}
+use Rattle.ecam.specs.Route.{out_of_range, route}
+use Rattle.ecam.specs.Examples.{W7, W8, W9, W12, DeviceFive, OneMessage, ThreeMessages, ManyMessages, AllMasked}
 use native.Mathlib.Omega.{arith}
 use borrow.Author.Tests.{lt-leb}
 

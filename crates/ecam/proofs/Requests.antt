@@ -1,17 +1,15 @@
 -- The request that a routed access sends.
-use mathlib.Core.Path.{◌≡◌, refl, sym, ap, ◌∙◌}
-use mathlib.Core.Bool.{Bool, true, false, cond, not, ◌&&◌, ◌||◌}
-use Prim.Native.Nat.{ℕ, ◌+◌, ◌*◌, ◌/◌, ◌%◌, ◌^◌, ◌≤◌, ◌<◌}
+use mathlib.Core.Path.{◌≡◌, sym}
+use mathlib.Core.Bool.{Bool, true, false, cond}
+use Prim.Native.Nat.{ℕ, ◌+◌, ◌*◌, ◌/◌, ◌%◌, ◌^◌, ◌<◌}
 use native.Mathlib.Nat.{mod-lt, div-one}
 use native.Mathlib.Omega.{arith}
-use lib.Dec.{leb, ltb, eqb, lit<}
+use lib.Dec.{lit<}
 use lib.Pow.{shr_mod, split}
 use borrow.Author.Tests.{lt-ltb}
-use Rattle.tlp.specs.declared.request.Target.TheVariants.{Config0, Config1}
-use Rattle.tlp.specs.Request.{valid_enables, valid_config, valid_target, valid_request}
+use Rattle.tlp.specs.Request.{valid_config, valid_target, valid_request}
 use Rattle.ecam.specs.declared.Route.{Route}
 use Rattle.ecam.specs.declared.Route.TheVariants.{OutOfRange, Local, Type0, Type1, NotRouted, DeviceNotZero}
-use Rattle.ecam.specs.Offset.{register, extended, function, device, bus}
 use Rattle.ecam.specs.Registers.{byte}
 use Rattle.ecam.specs.Request.{config_address, config_target, config_request, data_bytes, data_word}
 use Rattle.ecam.specs.Laws.{ConfigRequestValid, DataReadsBack}

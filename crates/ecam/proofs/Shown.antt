@@ -6,15 +6,14 @@ use Prim.Native.Nat.{ℕ, zero, suc, ◌+◌, ◌*◌, ◌/◌, ◌%◌, ◌^◌
 use native.Mathlib.Nat.{mod-mod, mod-eq_of_lt, zero-lt-suc, pow-suc, lt_of_lt_of_le}
 use native.Mathlib.Decide.{dec_lt}
 use native.Mathlib.Omega.{arith}
-use lib.Dec.{eqb}
 use lib.Pow.{pow_mono}
 use borrow.Author.Tests.{ne_eqb}
-use Rattle.bits.specs.Bits.{bit, is_set, from_bits}
+use Rattle.bits.specs.Bits.{bit, is_set}
 use Rattle.bits.proofs.Flags.{apart, and_left, and_right, and_true}
 use Rattle.bits.proofs.Bits.{from_bits_has, from_bits_fits, same_bits, none_above}
 use Rattle.ecam.specs.Fields.{Registers}
-use Rattle.ecam.specs.Registers.{some, decode_bits, is_decode_bit, is_error_bit, byte, strobe, strobed, reached, clears, shown, cleared, masked, numbered, status_control, error_fifo_read, status, local_read, local_write, write_buses, write_disable, write_status, with_decode, with_mask, line}
-use Rattle.ecam.specs.Laws.{ReadElsewhere, ReadBuses, ReadBusesTop, ReadInfo, ReadDisable, ReadDecode, ReadMask, ReadLink, ReadRest, OnlyDecodeBits, Held, ShownIsAll, Share, LineHigh, LineOnly}
+use Rattle.ecam.specs.Registers.{some, decode_bits, is_decode_bit, is_error_bit, byte, strobe, strobed, reached, clears, shown, cleared, masked, numbered, status_control, error_fifo_read, status, local_read, local_write, write_buses, write_disable, write_status, line}
+use Rattle.ecam.specs.Laws.{ReadElsewhere, ReadBuses, ReadBusesTop, ReadInfo, ReadDisable, ReadDecode, ReadMask, ReadLink, ReadRest, OnlyDecodeBits, ShownIsAll, Share, LineHigh, LineOnly}
 use Rattle.ecam.proofs.Words.{some_at, Found, some_found}
 use Rattle.ecam.proofs.Writes as writes
 use Rattle.ecam.proofs.Writes.{Wrote, buses, disable, decode, mask, fifo, none, wrote}

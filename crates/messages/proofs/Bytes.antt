@@ -1,15 +1,14 @@
 -- The layout: which bytes are an error message.
-use Prim.Native.Nat.{ℕ}
 use native.Mathlib.Omega.{arith}
 use mathlib.Core.Path.{◌≡◌, refl}
 use mathlib.Core.Logic.{◌⊎◌, inl, inr}
-use mathlib.Core.List.{List, [], ◌∷◌}
+use mathlib.Core.List.{[], ◌∷◌}
 use mathlib.Core.Bool.{Bool, true, false, ◌&&◌, ◌||◌}
 use lib.ListN.{length}
 use lib.Dec.{eqb}
 use borrow.Author.Tests.{eqb-true, ne_eqb}
 use Rattle.messages.specs.Layout.{is_error_code, is_error_message}
-use Rattle.messages.specs.Laws.{LaidIsTaken, Laid, TakenIsLaid, Codes}
+use Rattle.messages.specs.Laws.{LaidIsTaken, TakenIsLaid, Codes}
 use Rattle.messages.proofs.Order.{apart}
 
 three_hold : (a b c : Bool) → (a && b && c) ≡ true → (a ≡ true) × (b ≡ true) × (c ≡ true)

@@ -7,7 +7,7 @@ use native.Mathlib.Nat.{add-zero}
 use native.Mathlib.Omega.{arith}
 use borrow.Author.Tests.{le-ltb, le-leb, lt-leb}
 use lib.ListN.{length, take, drop, length-append, length-drop}
-use lib.Dec.{ltb, leb}
+use lib.Dec.{ltb}
 use lib.Seq.{length-take-le, paste, paste-zero, take-paste, drop-paste, take-length, take-append_seam, drop-append-add, drop-drop}
 use Rattle.tlp.specs.declared.Written.{Written}
 use Rattle.tlp.specs.declared.request.Target.{Target}

@@ -1,6 +1,6 @@
 -- The change column of the refusal table: only 3 and 13 change anything.
 use Rattle.std.proofs.Common.{◌≡◌, ℕ, Bool, true, false, cond, eqb, refl}
-use Rattle.refusals.specs.Table.{Row, Change, keeps, change_of}
+use Rattle.refusals.specs.Table.{Row, keeps, change_of}
 
 either : (x : Bool) (r s : Row) → r.change ≡ keeps → s.change ≡ keeps → (cond x r s).change ≡ keeps
 either true r s e f = e

@@ -1,5 +1,5 @@
 -- A store in a flat table is a store in one column, and no other column sees it: for a column of any width, anywhere.
-use Rattle.std.proofs.Common.{◌≡◌, ℕ, ◌+◌, ◌-◌, ◌<◌, ◌≤◌, List, length, get_or, take, drop, set, ap, ◌∙◌, arith, get_or-drop, get_or-take, drop-set-lt}
+use Rattle.std.proofs.Common.{◌≡◌, ℕ, ◌+◌, ◌-◌, ◌<◌, ◌≤◌, List, get_or, take, drop, set, ap, ◌∙◌, arith, get_or-drop, get_or-take, drop-set-lt}
 use lib.Seq.{take-set-le, take-set-lt, drop-set-add}
 use Rattle.parts.specs.Code.Columns.{column}
 

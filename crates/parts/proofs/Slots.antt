@@ -1,5 +1,5 @@
 -- The search for a free slot, step by step.
-use Rattle.std.proofs.Common.{◌≡◌, ℕ, zero, suc, ◌+◌, ◌<◌, ◌≤◌, List, [], ◌∷◌, length, get_or, sym, refl, ap, ◌∙◌, add-one, arith, eq-eqb, ne_eqb}
+use Rattle.std.proofs.Common.{◌≡◌, ℕ, zero, suc, ◌+◌, ◌<◌, List, [], ◌∷◌, length, get_or, refl, ◌∙◌, add-one, arith, eq-eqb, ne_eqb}
 use Rattle.parts.specs.Numbers.{free_slot_from}
 
 -- inside a list the default is not read

@@ -1,7 +1,7 @@
 -- C5, whole files: records one behind the other are read as their events.
 use mathlib.Core.Path.{◌≡◌, refl, sym, ap, subst, ◌∙◌}
 use mathlib.Core.Bool.{true}
-use mathlib.Core.List.{List, [], ◌∷◌, ◌++◌, append_assoc, append_nil, flat_map}
+use mathlib.Core.List.{List, [], ◌∷◌, ◌++◌, append_assoc, append-nil, flat_map}
 use Prim.Native.Nat.{ℕ, zero, suc, ◌+◌, ◌^◌, ◌≤◌, ◌<◌}
 use native.Mathlib.Omega.{arith}
 use lib.ListN.{length, drop, length-append}
@@ -69,5 +69,5 @@ files_read_back es a =
     let n = length es in
     record {
       whole = λ h z. ap file (append_assoc (records_of es) (end_record n) z) ∙ file_of_lem (end_record n ++ z) (ended n) es a (end_tail n z h);
-      unended = ap file (sym (append_nil (records_of es))) ∙ file_of_lem [] (cut n) es a (no_tail n);
+      unended = ap file (sym (append-nil (records_of es))) ∙ file_of_lem [] (cut n) es a (no_tail n);
     }

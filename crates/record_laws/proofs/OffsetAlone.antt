@@ -1,7 +1,7 @@
 -- A configuration read, read from its record with any strobes and data, is written with its offset alone.
 use mathlib.Core.Path.{◌≡◌, refl, sym, ap, ◌∙◌}
 use mathlib.Core.Bool.{true}
-use mathlib.Core.List.{List, [], ◌∷◌, ◌++◌, append_nil}
+use mathlib.Core.List.{List, [], ◌∷◌, ◌++◌, append-nil}
 use Prim.Native.Nat.{ℕ, ◌+◌, ◌*◌, ◌/◌, ◌%◌, ◌^◌, ◌<◌}
 use native.Mathlib.Omega.{arith}
 use lib.ListN.{take}
@@ -57,7 +57,7 @@ module _ (offset strobes word : ℕ) where
         }
 
     config_number_lem : number (record_bytes 3 vs []) 3 9 ≡ fields_number 3 vs
-    config_number_lem = ap (λ (s : List ℕ). number s 3 9) (sym (append_nil (record_bytes 3 vs []))) ∙ fields_there 3 vs [] [] f
+    config_number_lem = ap (λ (s : List ℕ). number s 3 9) (sym (append-nil (record_bytes 3 vs []))) ∙ fields_there 3 vs [] [] f
 
     offset_number : fields_number 3 zeros ≡ blanked (number (record_bytes 3 vs []) 3 9)
     offset_number =

@@ -85,8 +85,9 @@ module _ (kind : ℕ) (values plain z : List ℕ) (f : fits_kind kind values pla
   fields_there =
       let n = field_bytes (layout_of kind) in
       let x = fields_number kind values in
-      number_behind _ _ 2 n ∙ number_behind _ _ 1 n ∙ number_behind _ _ 0 n
-      ∙ rw (append_assoc (bytes n x) plain z) (number_there n x (plain ++ z) (fields_lt kind values plain f))
+      let here : number ((bytes n x ++ plain) ++ z) 0 n ≡ x =
+      rw (append_assoc (bytes n x) plain z) (number_there n x (plain ++ z) (fields_lt kind values plain f)) in
+      ?
 
   values_there : values_in s ≡ values
   values_there =

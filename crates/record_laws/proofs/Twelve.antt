@@ -1,7 +1,7 @@
 -- C7: a writer refuses with 12 exactly what no bytes are read as.
 use mathlib.Core.Path.{◌≡◌, refl, sym, ap, subst, ◌∙◌}
 use mathlib.Core.Bool.{Bool, true, false, cond}
-use mathlib.Core.List.{List, [], ◌∷◌, ◌++◌, append_nil}
+use mathlib.Core.List.{List, [], ◌∷◌, ◌++◌, append-nil}
 use Prim.Native.Nat.{ℕ, ◌*◌, ◌/◌, ◌^◌, ◌<◌}
 use native.Mathlib.Nat.{mod-lt}
 use native.Mathlib.Omega.{arith}
@@ -77,10 +77,10 @@ read_can (writing.message m) s b r = absurd r
 
 can_read : (i : Item) → Lent i → can_hold i ≡ true → (s : List ℕ) × (Bytes s × ReadsAs i s)
 can_read (writing.event e) l h =
-    (record_of e, (event_bytes e l, (0, length (record_of e), ap (next 0) (sym (append_nil (record_of e))) ∙ reads_back e h 0 [])))
+    (record_of e, (event_bytes e l, (0, length (record_of e), ap (next 0) (sym (append-nil (record_of e))) ∙ reads_back e h 0 [])))
 can_read (writing.end n) u h =
     let l = first_fits 32 n [] [] (values_fit 0 (n ∷ []) [] h) in
-    (end_record n, (end_bytes n, ap (next n) (sym (append_nil (end_record n))) ∙ (ends_read_back n l).right []))
+    (end_record n, (end_bytes n, ap (next n) (sym (append-nil (end_record n))) ∙ (ends_read_back n l).right []))
 can_read (writing.message m) l h = no_path (cc)
 
 pub twelve_exactly : TwelveExactly

@@ -1,5 +1,5 @@
 -- Whole records by their kinds, as the code tests and reads them.
-use mathlib.Core.Path.{◌≡◌, refl, sym, ap, ◌∙◌}
+use mathlib.Core.Path.{◌≡◌, refl, ap, ◌∙◌}
 use mathlib.Core.Logic.{◌≢◌}
 use mathlib.Core.List.{List, [], ◌∷◌}
 use mathlib.Core.Bool.{Bool, true, false, cond, not}
@@ -9,7 +9,6 @@ use borrow.Author.Tests.{leb-true}
 use lib.ListN.{length, take, drop}
 use lib.Dec.{eqb, leb}
 use Rattle.common.proofs.Tests.{and_left}
-use Rattle.burst.specs.declared.Burst.{Burst}
 use Rattle.tlp.specs.Bytes.{byte, number}
 use Rattle.records.specs.declared.Fault.TheVariants.{Padding}
 use Rattle.records.specs.Layout.{burst_fields, layout_of, unpacked, length_fits}

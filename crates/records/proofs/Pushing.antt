@@ -1,18 +1,17 @@
 -- One byte on the buffer is one byte of the definition.
 use mathlib.Core.Path.{◌≡◌, refl, sym, ap, ◌∙◌, subst}
 use mathlib.Core.List.{List, [], ◌∷◌, ◌++◌}
-use mathlib.Core.Option.{Option, none, some}
+use mathlib.Core.Option.{none, some}
 use mathlib.Core.Bool.{true}
-use Prim.Native.Nat.{ℕ, suc, ◌+◌, ◌≤◌, ◌<◌, min}
+use Prim.Native.Nat.{ℕ, ◌+◌, ◌≤◌, ◌<◌, min}
 use native.Mathlib.Numerals.{add-one}
 use native.Mathlib.Omega.{arith}
-use lib.ListN.{length, take, set, length-append, length-set}
+use lib.ListN.{length, take, set, length-append}
 use lib.Seq.{take-suc-set, take-take, length-take-le}
 use Rattle.records.specs.declared.Found.{Found}
 use Rattle.records.specs.declared.Found.TheVariants as found
 use Rattle.records.specs.declared.Reader.{Reader}
 use Rattle.records.specs.declared.Phase.TheVariants.{Reading}
-use Rattle.records.specs.Events.{Captured}
 use Rattle.records.specs.Reading.{Next, next}
 use Rattle.records.specs.Stream as stream
 use Rattle.records.specs.Stream.{is_reading, pushed, pushed_by, push}

@@ -1,5 +1,5 @@
 -- The events that a capture holds, and what of each stands in its record.
-use Rattle.std.specs.Prelude.{ℕ, ◌+◌, ◌-◌, List, [], ◌∷◌, Bool, true, false, cond, get_or, eqb}
+use Rattle.std.specs.Prelude.{ℕ, ◌+◌, ◌-◌, List, [], ◌∷◌, Bool, cond, get_or, eqb}
 use Rattle.address.specs.Windows.{axi}
 use Rattle.burst.specs.declared.Burst.{Burst}
 use Rattle.tlp.specs.Bytes.{flag}

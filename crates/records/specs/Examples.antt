@@ -1,5 +1,5 @@
 -- Examples of records and files, by their bytes (02, A5, and its readings).
-use Rattle.std.specs.Prelude.{ℕ, ◌≡◌, List, [], ◌∷◌, Bool, true, false}
+use Rattle.std.specs.Prelude.{ℕ, ◌≡◌, List, [], ◌∷◌, true}
 use Rattle.address.specs.Windows.{axi}
 use Rattle.burst.specs.declared.Burst.{Burst}
 use Rattle.records.specs.declared.Fault.TheVariants.{Kind, Length, Padding, Count}

@@ -1,5 +1,5 @@
 -- What the bytes of a capture begin with: a record, a part of one, or a fault.
-use Rattle.std.specs.Prelude.{ℕ, ◌+◌, ◌-◌, ◌/◌, ◌%◌, ◌^◌, List, Bool, cond, not, ◌&&◌, length, get_or, take, drop, ltb, leb, eqb}
+use Rattle.std.specs.Prelude.{ℕ, ◌+◌, ◌/◌, ◌%◌, ◌^◌, List, Bool, cond, not, ◌&&◌, length, get_or, take, drop, ltb, leb, eqb}
 use Rattle.tlp.specs.Bytes.{byte, number}
 use Rattle.records.specs.declared.Fault.{Fault}
 use Rattle.records.specs.declared.Fault.TheVariants.{Kind, Length, Padding, Count}

@@ -1,7 +1,6 @@
 -- The streaming reader, byte by byte: it is fed a file in any parts.
 use Rattle.std.specs.Prelude.{ℕ, ◌+◌, ◌-◌, ◌^◌, min, List, [], ◌∷◌, ◌++◌, Bool, true, false, cond}
 use Rattle.std.proofs.Math.Option.{Option, none, some}
-use Rattle.records.specs.declared.Fault.{Fault}
 use Rattle.records.specs.declared.Phase.{Phase}
 use Rattle.records.specs.declared.Phase.TheVariants.{Reading, Ended, Bad}
 use Rattle.records.specs.Events.{Captured}

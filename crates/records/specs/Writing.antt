@@ -1,7 +1,6 @@
 -- The writer: one record a call, an event's or the end's.
-use Rattle.std.specs.Prelude.{ℕ, ◌+◌, List, [], ◌∷◌, ◌++◌, Bool, true, false, cond, not, ◌&&◌, length, drop, ltb, leb, eqb}
+use Rattle.std.specs.Prelude.{ℕ, ◌+◌, List, [], ◌∷◌, ◌++◌, Bool, true, false, cond, ◌&&◌, length, drop, ltb, leb, eqb}
 use Rattle.refusals.specs.Table.{too_short, malformed}
-use Rattle.burst.specs.declared.Burst.{Burst}
 use Rattle.records.specs.declared.Written.{Written}
 use Rattle.records.specs.Layout.{layout_of, field_bytes, fit, length_fits, record_bytes}
 use Rattle.records.specs.Events.{Captured, read, write, config_read, config_write, completion, link, tick, take, kind_of, values_of, plain_of}

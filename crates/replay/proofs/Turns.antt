@@ -1,6 +1,6 @@
 -- The reader's steps, played.
 use mathlib.Core.Path.{◌≡◌, refl, sym, ap, ◌∙◌, subst}
-use mathlib.Core.List.{List, [], ◌∷◌, ◌++◌, append_nil}
+use mathlib.Core.List.{List, [], ◌∷◌, ◌++◌, append-nil}
 use mathlib.Core.Option.{Option, none, some}
 use mathlib.Core.Bool.{true}
 use Prim.Native.Nat.{ℕ, zero, suc, ◌+◌, ◌-◌, ◌<◌, ◌≤◌, zero-le}
@@ -52,7 +52,7 @@ pub does_none : (g : List Told → Stage) (rows : List ℕ) (at : ℕ) → Does 
 does_none g rows at =
     record {
       told = [];
-      stages = λ earlier. ap g (append_nil earlier);
+      stages = λ earlier. ap g (append-nil earlier);
       counted = refl;
       events = refl;
       rows_after = refl;

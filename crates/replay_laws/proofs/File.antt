@@ -1,7 +1,7 @@
 -- C2: the streaming reader is the file's reader.
 use Prim.Native.Nat.{ℕ, zero, suc, ◌+◌, ◌≤◌, ◌<◌, ◌^◌}
 use mathlib.Core.Path.{◌≡◌, refl, sym, ap, ap₂, ◌∙◌, subst₂}
-use mathlib.Core.List.{List, [], ◌∷◌, ◌++◌, append_nil, append_assoc}
+use mathlib.Core.List.{List, [], ◌∷◌, ◌++◌, append-nil, append_assoc}
 use mathlib.Core.Option.{none, some}
 use mathlib.Core.Bool.{false}
 use native.Mathlib.Nat.{min-eq_left, suc-ne-zero, not-suc-le-zero}
@@ -114,7 +114,7 @@ module _ (b : ℕ) (s : List ℕ) (rest : From s) (turns n at : ℕ) (h : List �
 from : (s : List ℕ) → From s
 from [] zero n at h m few short enough = record { events = refl; verdict = (refl, refl) }
 from [] (suc turns) n at h m few short enough =
-    gives refl (file_by_lem turns n at (h ++ []) more (ap (next n) (append_nil h) ∙ m)) (record { events = refl; verdict = (refl, refl) })
+    gives refl (file_by_lem turns n at (h ++ []) more (ap (next n) (append-nil h) ∙ m)) (record { events = refl; verdict = (refl, refl) })
 from (b ∷ s) zero n at h m few short enough = absurd (not-suc-le-zero {n = 0} (omega arith))
 from (b ∷ s) (suc turns) n at h m few short enough =
     step_by b s (from s) turns n at h m few short enough (next n (h ++ b ∷ [])) refl

@@ -1,7 +1,7 @@
 -- The events of a capture are events of `trace`.
 use Prim.Native.Nat.{ℕ, ◌+◌}
 use mathlib.Core.Path.{◌≡◌, refl, sym, ap, ap₂, ◌∙◌}
-use mathlib.Core.List.{List, [], ◌∷◌, ◌++◌, append_nil, append_assoc}
+use mathlib.Core.List.{List, [], ◌∷◌, ◌++◌, append-nil, append_assoc}
 use mathlib.Core.Bool.{Bool, true, false}
 use native.Mathlib.Omega.{arith}
 use borrow.Author.Tests.{eqb-true}
@@ -27,7 +27,7 @@ use Rattle.replay_laws.proofs.Areas.{read_keeps, write_keeps, config_keeps}
 -- what one call sends is all that its event sends
 alone : (g : Stage) (c : trace.Call) (after : List ℕ) → after ≡ filled (step g.held (call c)).out.sent g.area
     → after ≡ filled (sent_by (outs g.held (call c ∷ []))) g.area
-alone g c after e = e ∙ ap (λ (s : List ℕ). filled s g.area) (sym (append_nil (step g.held (call c)).out.sent))
+alone g c after e = e ∙ ap (λ (s : List ℕ). filled s g.area) (sym (append-nil (step g.held (call c)).out.sent))
 
 pub played_is_step : PlayedIsStep
 unfolding played
@@ -104,7 +104,7 @@ traced_append room labels i (e ∷ es) fs =
     ∙ ap (λ (n : ℕ). traced room (labels i) e ++ traced_all room labels (i + 1) es ++ traced_all room labels n fs) (omega arith)
 
 pub played_all_is_run : PlayedAllIsRun
-played_all_is_run g labels i [] = record { held = refl; told = sym (append_nil g.told); room = refl }
+played_all_is_run g labels i [] = record { held = refl; told = sym (append-nil g.told); room = refl }
 played_all_is_run g labels i (e ∷ es) =
     let one = played_is_step g (labels i) e in
     let rest = played_all_is_run (played g e) labels (i + 1) es in

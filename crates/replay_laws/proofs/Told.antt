@@ -1,7 +1,7 @@
 -- What was told before a call changes nothing in it.
 use Prim.Native.Nat.{ℕ, ◌-◌}
 use mathlib.Core.Path.{◌≡◌, refl, sym, ap, ◌∙◌}
-use mathlib.Core.List.{List, [], ◌∷◌, ◌++◌, append_nil, append_assoc}
+use mathlib.Core.List.{List, [], ◌∷◌, ◌++◌, append-nil, append_assoc}
 use mathlib.Core.Option.{Option, none, some}
 use mathlib.Core.Bool.{Bool, true, false, cond}
 use Rattle.records.specs.Events as records
@@ -46,5 +46,5 @@ call_told a r ts g (b ∷ s) = by (halts a r.phase) (call_told (a - counts (push
 
 pub told_before : ToldBefore
 told_before a r h area earlier s =
-    ap (λ (ts : List Told). play a (playing r (stage h area ts)) s) (sym (append_nil earlier))
+    ap (λ (ts : List Told). play a (playing r (stage h area ts)) s) (sym (append-nil earlier))
     ∙ call_told a r earlier (stage h area []) s

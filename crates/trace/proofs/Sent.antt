@@ -1,7 +1,7 @@
 -- What an event asks is what it sends.
 use Prim.Native.Nat.{ℕ, ◌^◌, ◌<◌}
 use mathlib.Core.Path.{◌≡◌, refl, sym, ap, ◌∙◌}
-use mathlib.Core.List.{List, [], ◌∷◌, ◌++◌, map, flat_map, append_nil}
+use mathlib.Core.List.{List, [], ◌∷◌, ◌++◌, map, flat_map, append-nil}
 use mathlib.Core.Bool.{Bool, true, false, cond, ◌&&◌}
 use lib.Dec.{ltb, eqb}
 use borrow.Author.Tests.{eqb-true, ltb-true}
@@ -61,7 +61,7 @@ module _ (h : Held) (v : Sound h) where
   unfolding flat_map
   config_by a room true true e g =
       rw g at (routed_packet b a room (record { requester = requester_fits b.settings v.right; accepted = eqb-true _ _ e; out = g })).bytes
-      ∙ sym (append_nil _)
+      ∙ sym (append-nil _)
   config_by a room true false e g = refl
   config_by a room false g e f = refl
 

@@ -1,6 +1,5 @@
 -- What the code's values mean: an event of numbers with the bytes of its record, and a reader with the buffer that it is lent.
-use Rattle.std.specs.Prelude.{ℕ, ◌+◌, ◌-◌, min, List, [], length, take, drop}
-use Rattle.std.proofs.Math.Option.{Option, none, some}
+use Rattle.std.specs.Prelude.{ℕ, ◌+◌, ◌-◌, min, List, take, drop}
 use Rattle.records.specs.declared.Event.{Event}
 use Rattle.records.specs.declared.Event.TheVariants as code
 use Rattle.records.specs.declared.Item.{Item}

@@ -5,7 +5,7 @@ use mathlib.Core.List.{List, [], ◌∷◌, map}
 use native.Mathlib.Omega.{arith}
 use Rattle.machine.specs.State.{slot_state, tag_count, slot_count, registers_of}
 use Rattle.machine.specs.Completions.{Held}
-use Rattle.trace.specs.Events.{Event, seen}
+use Rattle.trace.specs.Events.{Event, step, seen}
 use Rattle.trace.specs.Sound.{Sound}
 use Rattle.trace.specs.Claims.{Left, seen_apart, Alike}
 use Rattle.trace.proofs.Soundness.Fine.{state_below, state_config}
@@ -51,10 +51,10 @@ left_pair {x} {y} p q s e =
 -- ---- and stay alike
 
 seen_alike : {x y : Held} → Sound x → Pair x y → (later : List Event) → map seen_apart (seen x later) ≡ map seen_apart (seen y later)
-seen_alike v p [] = refl
+seen_alike {x} {y} v p [] = refl
 seen_alike {x} {y} v p (e ∷ es) =
     let n = next v p e in
-    let l = seen_alike (sound_step x e v) n.pair es in
+    let l = seen_alike {x = (step x e).after} {y = (step y e).after} (sound_step x e v) n.pair es in
     λ i. record {
       out = record { answer = n.answer i; sent = n.sent i; part = n.part i };
       registers = n.pair.twin.core.registers i;

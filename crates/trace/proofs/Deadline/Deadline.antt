@@ -124,7 +124,7 @@ module _ (k : ℕ) (Q : Held → Type 0) (I : ℕ → Held → List Event → Ty
     (done : (c : ℕ) (h : Held) (es : List Event) → Sound h → state_of h.bridge k ≡ 2 → I c h es → Q h) where
   pub until : {c : ℕ} {h : Held} (es : List Event) → Waits k c h → I c h es → Until Q k h es
   until {c} {h} [] w i = absurd (last c h w i)
-  until {c} {h} (e ∷ es) w i = inr (w.opens, by (waits_on e w) (λ u. until es u (on c h e es w i)))
+  until {c} {h} (e ∷ es) w i = inr (w.opens, by (waits_on e w) (λ u. until {c = c + is_tick e} {h = x} es u (on c h e es w i)))
     where
       x : Held
       x = (step h e).after

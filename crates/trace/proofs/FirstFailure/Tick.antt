@@ -21,13 +21,13 @@ use Rattle.bridge_laws.proofs.Parts.{same_missing, same_sent, same_owner, same_p
 use Rattle.bridge_laws.proofs.Cores.{raised_core_lem}
 use Rattle.bridge_laws.proofs.Effects.{core_acts, timed_out_expires}
 use Rattle.bridge_laws.proofs.Turns.{each_tag}
-use Rattle.trace.specs.FirstFailure.{Failure, first_failed, failing, tick_fails}
+use Rattle.trace.specs.FirstFailure.{Failure, better, first_failed, failing, tick_fails}
 use Rattle.trace.proofs.FirstFailure.Tracks.{left_same, left_closed}
 use Rattle.trace.proofs.FirstFailure.Effects.{Keeps, kept, failed_keeps}
 
 pub first_append : (o : Option Failure) (x y : List Failure) → first_failed o (x ++ y) ≡ first_failed (first_failed o x) y
 first_append o [] y = refl
-first_append o (f ∷ x) y = first_append _ x y
+first_append o (f ∷ x) y = first_append (better o f) x y
 
 -- ---- its turns: the tags that it has not come to are as they were
 

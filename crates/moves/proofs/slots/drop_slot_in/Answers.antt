@@ -1,0 +1,29 @@
+use mathlib.Core.Path.{ap, ◌∙◌}
+use Prim.Native.Nat.{◌+◌, min}
+use lib.ListN.{get_or, set}
+use borrow.Author.Tests.{eq-eqb, ne_eqb}
+use Rattle.parts.specs.Sizes.{slot_count}
+use Rattle.parts.proofs.Columns.{get}
+use Rattle.machine.specs.Bridge.{Bridge, set_state, set_pieces}
+use Rattle.parts.specs.Code.Columns.{state_column, size_column, pieces_column, cause_column}
+use Rattle.machine.proofs.Tables.{put_state_lem, put_pieces_lem, put_cause_lem}
+use Rattle.machine.specs.Completions.{held, zeroed}
+use Rattle.machine.specs.Ticks.{drop_slot}
+use Rattle.parts.specs.Sizes.{slot_size}
+use Rattle.moves.proofs.slots.drop_slot_in.Goals as goal
+
+pub returns-then-slots-k-ne-OPEN : goal.returns-then-slots-k-ne-OPEN
+unfolding drop_slot
+returns-then-slots-k-ne-OPEN c = λ s d m t. let a = c.args in rw (get slot_count state_column a.slots.now a.k c.requires.1, ne_eqb _ _ c.if-slots-k-ne-OPEN.true)
+
+pub returns : goal.returns
+unfolding drop_slot
+returns c = λ s d m t.
+    let a = c.args in
+    rw
+    (get slot_count state_column a.slots.now a.k c.requires.1, get slot_count size_column a.slots.now a.k c.requires.1, eq-eqb _ _ c.if-slots-k-ne-OPEN.false, c.clear_slot.ensures, c.within_slot.ensures.0)
+    (ap (λ (y : Bridge). held y (zeroed a.k (min (get_or a.slots.now (size_column + a.k) 0) slot_size) a.store.now))
+    (put_state_lem s d m t (set (set a.slots.now (cause_column + a.k) 2) (pieces_column + a.k) 0) a.k 2 c.requires.1
+    ∙ ap (set_state a.k 2)
+    (put_pieces_lem s d m t (set a.slots.now (cause_column + a.k) 2) a.k 0 c.requires.1
+    ∙ ap (set_pieces a.k 0) (put_cause_lem s d m t a.slots.now a.k 2 c.requires.1))))
