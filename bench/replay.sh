@@ -3,7 +3,8 @@
 #   bench/replay.sh            compare the answers, then time
 #   bench/replay.sh compare    only compare
 set -euo pipefail
-cd "$(dirname "$0")/.."
-said=$(rt staticlib replay_bench 2>&1) || { printf '%s\n' "$said"; exit 1; }
-cd bench/replay
+cd "$(dirname "$0")/replay"
+../../build.sh replay_bench_c
+mkdir -p target
+cp ../../crates/replay_bench_c/out/libreplay_bench_c.a target/libreplay_bench.a
 cargo run --release --offline --quiet -- "$@"

@@ -3,7 +3,8 @@
 #   bench/run.sh            compare the answers, then time
 #   bench/run.sh compare    only compare
 set -euo pipefail
-cd "$(dirname "$0")/.."
-said=$(rt staticlib window_bench 2>&1) || { printf '%s\n' "$said"; exit 1; }
-cd bench
+cd "$(dirname "$0")"
+../build.sh window_bench_c
+mkdir -p target
+cp ../crates/window_bench_c/out/libwindow_bench_c.a target/libwindow_bench.a
 cargo run --release --offline --quiet --bin windows -- "$@"

@@ -5,36 +5,31 @@
 #
 #   crates/trace/wrong.sh [NAME...]    all, or the named ones. Exit status 1: something is not as it must be.
 #
-# It takes the proved lower crates of target/, proving them first where they are not, and leaves each log in target/wrong/.
+# A copy is a repository of its own, whose checks begin with what earlier ones on this machine kept of the same crates, so that
+# the lower ones, whole in it, are mostly not proved again. The logs stay in crates/trace/out/wrong/ until rt ci runs.
 set -euo pipefail
 cd "$(dirname "$0")/../.."
 jobs=${WRONG_JOBS:-2}
 lower='common refusals bits tags tlp address burst messages ecam packets'
-logs=$PWD/target/wrong
+bridge='verdict parts machine bridge_laws trace'
+logs=$PWD/crates/trace/out/wrong
 room=$(mktemp -d)
 trap 'rm -rf "$room"' EXIT
 mkdir -p "$logs"
-for c in $lower; do
-    [ -e "target/rlib/$c.rlib" ] && [ -e "target/stamp/$c" ] || {
-        rt check $lower >"$logs/lower.log" 2>&1 || { echo "the lower crates are not proved: see $logs/lower.log"; exit 1; }
-        break
-    }
-done
 
 # ---- the copy without code
 
-# the types of a crate's lib.rt, and what they name
+# the types of a crate's lib.rt, their constants, and what they name
 types_only() { # LIB
-    awk '/^use |^pub use / { print }
-        /^pub (struct|enum) / { inside = 1 }
-        inside { print }
-        /^}/ { inside = 0 }' "$1"
+    awk '/^(pub )?(use|const|struct|enum) / { inside = 1 }
+        inside || /^#(!\[|\[derive)/ { print }
+        /^}|^[^ ].*;$/ { inside = 0 }' "$1"
 }
 
 # the modules of a crate's proofs/ that some lines use, as paths of files below it
-named() { # LIBRARY CRATE, lines on standard input
-    sed -n -e 's/^pub use/use/' -e "s/^use $1\.proofs\.\([A-Za-z0-9.]*\).*/\1/p" | sed 's/\.$//' | tr . / | sort -u | while read -r m; do
-        [ ! -f "crates/$2/proofs/$m.antt" ] || echo "$m"
+named() { # CRATE, lines on standard input
+    sed -n "s/^\(pub \|unfoldable \)*use Rattle\.$1\.proofs\.\([A-Za-z0-9.]*\).*/\2/p" | sed 's/\.$//' | tr . / | sort -u | while read -r m; do
+        [ ! -f "crates/$1/proofs/$m.antt" ] || echo "$m"
     done
 }
 
@@ -43,64 +38,66 @@ reached() { # CRATE FILE
     local n=0
     while [ "$(wc -l <"$2")" -ne "$n" ]; do
         n=$(wc -l <"$2")
-        sed "s|.*|crates/$1/proofs/&.antt|" "$2" | xargs cat | named "Rattle·$1·proofs" "$1" | sort -u - "$2" -o "$2"
+        sed "s|.*|crates/$1/proofs/&.antt|" "$2" | xargs cat | named "$1" | sort -u - "$2" -o "$2"
     done
 }
 
 base=$room/base
-mkdir -p "$base/crates" "$base/target/rlib" "$base/target/stamp" "$base/target/log"
-cp crates.txt "$base/"
-for c in $lower verdict parts machine bridge_laws trace; do
+mkdir -p "$base/crates"
+for c in $lower $bridge; do
+    grep "^$c[ :]" crates.txt >>"$base/crates.txt"
     mkdir "$base/crates/$c"
     for part in src specs proofs; do
         [ ! -d "crates/$c/$part" ] || cp -R "crates/$c/$part" "$base/crates/$c/"
     done
 done
-for c in $lower; do
-    ln -s "$PWD/target/rlib/$c.rlib" "$base/target/rlib/$c.rlib"
-    cp "target/stamp/$c" "$base/target/stamp/"
-done
 
 (
     cd "$base"
-    for c in verdict parts; do
+    for c in $bridge; do
         types_only "crates/$c/src/lib.rt" >"$room/lib.rt"
-        rm -rf "crates/$c/src"/*
+        rm -r "crates/$c/src"/*
         mv "$room/lib.rt" "crates/$c/src/lib.rt"
-        find "crates/$c/proofs" -mindepth 1 -type d -prune -exec rm -rf {} +
-        rmdir "crates/$c/proofs" 2>/dev/null || true
+        # a folder with no file of its own beside it holds the proof of a function
+        [ ! -d "crates/$c/proofs" ] || find "crates/$c/proofs" -mindepth 1 -type d | while read -r d; do
+            [ -e "$d.antt" ] || rm -rf "$d"
+        done
     done
     # what `demand3` itself rests on: no example
     sed -i -e '/^use .*\.\(Example\|Applied\)\./d' -e '/^-- the example/,$d' crates/trace/proofs/Demand3.antt
     rm crates/trace/specs/Example.antt crates/trace/specs/SessionExamples.antt crates/trace/specs/Applied.antt
     sed -i '/Example\|Applied/d' crates/trace/specs/Lib.antt
-    echo Demand3 >"$room/trace"
+    # each claim by itself, so that a log names each one that falls
+    awk 'FNR == NR { if (/^  pub [a-z_]+ : /) type[$2] = $4; next }
+        /^use Rattle\.trace\.proofs\./ { print }
+        /^  [a-z_]+ = .*;$/ { all = all (all ? ", " : "") type[$1]; text = text "\npub " $1 " : " type[$1] "\n" $1 " = " substr($3, 1, length($3) - 1) "\n" }
+        END { print "use Rattle.trace.specs.Claims.{" all "}"; printf "%s", text }' \
+        <(sed -n '/^pub record Demand3 /,$p' crates/trace/specs/Claims.antt) crates/trace/proofs/Demand3.antt >crates/trace/proofs/Holds.antt
+    echo 'pub mod Holds' >>crates/trace/proofs/Lib.antt
+    printf '%s\n' Demand3 Holds >"$room/trace"
     reached trace "$room/trace"
     sed 's|.*|crates/trace/proofs/&.antt|' "$room/trace" | xargs cat >"$room/used"
-    named Rattle·bridge_laws bridge_laws <"$room/used" >"$room/bridge_laws"
-    reached bridge_laws "$room/bridge_laws"
-    sed 's|.*|crates/bridge_laws/proofs/&.antt|' "$room/bridge_laws" | xargs cat >>"$room/used"
-    named Rattle·machine machine <"$room/used" >"$room/machine"
-    reached machine "$room/machine"
+    for c in bridge_laws machine; do
+        named "$c" <"$room/used" >"$room/$c"
+        reached "$c" "$room/$c"
+        sed "s|.*|crates/$c/proofs/&.antt|" "$room/$c" | xargs cat >>"$room/used"
+    done
     for c in trace bridge_laws machine; do
         # a folder's own file declares the modules in it
         sed -n 's|/.*||p' "$room/$c" | sort -u >"$room/folders"
         (cd "crates/$c/proofs" && find . -name '*.antt' | sed 's|^\./||; s|\.antt$||') | while read -r m; do
             if [ "$m" = Lib ] || grep -Fxq "$m" "$room/folders"; then
-                file=crates/$c/proofs/$m.antt
                 from=''
                 [ "$m" = Lib ] || from=$m/
-                sed -n 's/^pub mod //p' "$file" | while read -r k; do
-                    if grep -Fxq "$from$k" "$room/$c" || { [ "$m" = Lib ] && grep -Fxq "$k" "$room/folders"; }; then
-                        echo "pub mod $k"
-                    fi
-                done >"$room/lib"
-                mv "$room/lib" "$file"
+                awk -v from="$from" 'FNR == NR { kept[$0]; sub(/\/.*/, ""); kept[$0]; next } /^(pub )?mod / && (from $NF) in kept' \
+                    "$room/$c" "crates/$c/proofs/$m.antt" >"$room/lib"
+                mv "$room/lib" "crates/$c/proofs/$m.antt"
             elif ! grep -Fxq "$m" "$room/$c"; then
                 rm "crates/$c/proofs/$m.antt"
             fi
         done
     done
+    find crates/*/proofs -type d -empty -delete
 )
 
 # ---- a wrong machine
@@ -145,32 +142,33 @@ apply() { # EDITFILE
 # its own, which must have the text that the edit 'shows', so that no mistake in the edit passes for a refusal; and the claims
 # that fall with them.
 outcome() { # LOG TEXT
-    if RT_JOBS=1 RT_CUT=0 rt check trace >"$1" 2>&1; then
+    if (cd crates/trace && rt check) >"$1" 2>&1; then
         echo proved
         return
     fi
     local first falls
-    first=$(grep '^[^ ]*: error: ' "$1" | grep -v 'was not admitted') || true
-    falls=$(sed -n 's/.*\/\(Bytes\|Deadline\|Okay\|Alike\)\.antt:[0-9:]* error: `\(bytes\|alike\|[a-z]*-deadline\|\(read\|config\|local\)-okay\)`.*/\2/p' "$1" | list)
-    if ! grep -q 'Demand3\.antt:[0-9:]* error: `demand3`: .* was not admitted' "$1"; then
+    # a line 'not checked: ..' names what depends on something refused
+    first=$(grep '^[^ ]*: error: ' "$1" | grep -v ' not checked: ') || true
+    falls=$(sed -n 's|^\./proofs/Holds\.antt:.* not checked: ||p' "$1" | list)
+    if ! grep -q '^\./proofs/Demand3\.antt:.* not checked: demand3$' "$1"; then
         echo "not proved, and demand3 was not reached: $(printf '%s\n' "$first" | head -n 1 | cut -c 1-300)"
     elif printf '%s\n' "$first" | grep -Fvq -e "$2"; then
         echo "refused for another reason: $(printf '%s\n' "$first" | grep -Fv -m 1 -e "$2" | cut -c 1-300)"
     else
-        echo "refused in $(printf '%s\n' "$first" | sed "s|^$PWD/\([^:]*\):[0-9:]* error: \`\([^\`]*\)\`.*|\1 \2|" | list); with it fall $falls"
+        echo "refused in $(printf '%s\n' "$first" | sed "s|^\./\([^:]*\):[0-9:]* error: \`\([^\`]*\)\`.*|crates/trace/\1 \2|" | LC_ALL=C sort -u | list); with it fall $falls"
     fi
 }
 
 # lines as a list
-list() { uniq | paste -s -d , | sed 's/,/, /g'; }
+list() { paste -s -d , | sed 's/,/, /g'; }
 
 # Prints a wrong machine's line, and leaves its word in the room.
 try() { # NAME
-    local edit=$PWD/crates/trace/wrong/$1.edit dir=$room/$1 wants got began=$SECONDS
+    local edit=$PWD/crates/trace/wrong/$1.edit wants got began=$SECONDS
     echo failed >"$room/$1.res"
     wants=$(sed -n 's/^expect: //p' "$edit")
-    cp -R "$base" "$dir"
-    cd "$dir"
+    cp -R "$base" "$room/$1"
+    cd "$room/$1"
     got=$(apply "$edit" && outcome "$logs/$1.log" "$(sed -n 's/^shows: //p' "$edit")") || true
     if [ "$got" = "$wants" ]; then
         echo as-it-must >"$room/$1.res"
@@ -178,11 +176,11 @@ try() { # NAME
     else
         echo "$1: FAILED: $got; it must be $wants ($((SECONDS - began)) s)"
     fi
-    rm -rf "$dir"
 }
 
-# ---- with no edit the copy is proved: without that a refusal would say nothing
-got=$(cd "$base" && outcome "$logs/none.log" '')
+# ---- with no edit the copy is proved: without that a refusal would say nothing. What this check keeps, the others begin with.
+cp -R "$base" "$room/none"
+got=$(cd "$room/none" && outcome "$logs/none.log" '')
 echo "no edit: $got ($SECONDS s)"
 [ "$got" = proved ] || exit 1
 
@@ -202,6 +200,7 @@ while [ $# -gt 0 ]; do
     for n in $batch; do
         cat "$room/$n.out"
         [ "$(cat "$room/$n.res")" = as-it-must ] || bad=1
+        rm -rf "${room:?}/$n"
     done
 done
 echo "$(echo $names | wc -w) wrong machines, $SECONDS s"

@@ -1,4 +1,4 @@
-// What bench/replay times: a capture played from its start on the bridge of the worked examples.
+// What bench/replay times: a capture played from its start on the bridge of the worked examples; replay_bench_c exports it for C.
 #![tactic(auto)]
 
 ghost use Rattle.std.specs.Prelude.{◌≡◌, ◌+◌, ◌≤◌};
@@ -17,8 +17,7 @@ fn sum_in(a: usize, b: usize, most: usize) -> usize
 
 // Plays the whole input by calls with one allowance, each on what the last has not read and with its rows from the start of the
 // slice, up to the end, a fault, or a call that reads nothing. How many events were played.
-#[unsafe(no_mangle)]
-pub extern "C" fn replay_bench_play(
+pub fn replay_bench_play(
     input: &[u8],
     store: &mut [u8],
     area: &mut [u8],

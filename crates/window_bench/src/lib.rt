@@ -1,5 +1,5 @@
-// What bench/ times: the choice of a window, by itself and as an access of the bridge makes it. Each export stands here twice,
-// with the present choice and, `_former`, with the one before request A3.
+// What bench/ times: the choice of a window, by itself and as an access of the bridge makes it. Each function for bench/ stands
+// here twice, with the present choice and, `_former`, with the one before request A3; window_bench_c exports these for C.
 #![tactic(auto)]
 
 mod former;
@@ -23,32 +23,19 @@ fn entry_number(f: Found) -> u64
 
 // ---- the choice on lent columns: one, and the sum of many
 
-#[unsafe(no_mangle)]
-pub extern "C" fn window_bench_choice(count: u32, base: &[u64; 6], size: &[u64; 6], a: u64) -> u64
+pub fn window_bench_choice(count: u32, base: &[u64; 6], size: &[u64; 6], a: u64) -> u64
     ensures { result ≡ entry_at count base.now size.now a }
 {
     entry_number(address::window_of(count, base, size, AxiAddress(a)))
 }
 
-#[unsafe(no_mangle)]
-pub extern "C" fn window_bench_choice_former(
-    count: u32,
-    base: &[u64; 6],
-    size: &[u64; 6],
-    a: u64,
-) -> u64
+pub fn window_bench_choice_former(count: u32, base: &[u64; 6], size: &[u64; 6], a: u64) -> u64
     ensures { result ≡ entry_at count base.now size.now a }
 {
     entry_number(former::window_of(count, base, size, AxiAddress(a)))
 }
 
-#[unsafe(no_mangle)]
-pub extern "C" fn window_bench_choices(
-    count: u32,
-    base: &[u64; 6],
-    size: &[u64; 6],
-    addresses: &[u64],
-) -> u64
+pub fn window_bench_choices(count: u32, base: &[u64; 6], size: &[u64; 6], addresses: &[u64]) -> u64
     ensures { result ≡ sum_of (entry_at count base.now size.now) addresses.now }
 {
     let mut sum: u64 = 0;
@@ -60,8 +47,7 @@ pub extern "C" fn window_bench_choices(
     sum
 }
 
-#[unsafe(no_mangle)]
-pub extern "C" fn window_bench_choices_former(
+pub fn window_bench_choices_former(
     count: u32,
     base: &[u64; 6],
     size: &[u64; 6],
@@ -122,8 +108,7 @@ fn table_of(count: u32, base: &[u64; 6], size: &[u64; 6], target: &[u64; 6]) -> 
     }
 }
 
-#[unsafe(no_mangle)]
-pub extern "C" fn window_bench_accesses(
+pub fn window_bench_accesses(
     count: u32,
     base: &[u64; 6],
     size: &[u64; 6],
@@ -142,8 +127,7 @@ pub extern "C" fn window_bench_accesses(
     sum
 }
 
-#[unsafe(no_mangle)]
-pub extern "C" fn window_bench_accesses_former(
+pub fn window_bench_accesses_former(
     count: u32,
     base: &[u64; 6],
     size: &[u64; 6],
