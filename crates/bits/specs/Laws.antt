@@ -1,7 +1,7 @@
 -- What is proved of the bits of a word, for every number n of bits.
-use Rattle.std.specs.Prelude.{◌≡◌, Bool, true, false, not, ◌&&◌, ◌||◌, ℕ, ◌+◌, ◌-◌, ◌^◌, ◌≤◌, ◌<◌}
+use Rattle.std.specs.Prelude.{◌≡◌, Bool, true, false, not, ◌&&◌, ◌||◌, ℕ, ◌-◌, ◌^◌, ◌≤◌, ◌<◌}
 use Rattle.std.specs.Int.Bits.{bit_and, bit_or}
-use Rattle.bits.specs.Bits.{bit, is_set, from_bits, set_bit, clear_bit}
+use Rattle.bits.specs.Bits.{is_set, from_bits, set_bit, clear_bit}
 
 -- a word built from its bits has those bits
 abbrev pub FromBitsHas : Type 0

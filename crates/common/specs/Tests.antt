@@ -1,5 +1,5 @@
 -- Rows of tests, as the header rules and the local words have them.
-use Rattle.std.specs.Prelude.{ℕ, List, [], ◌∷◌, Bool, true, false, cond, ◌&&◌}
+use Rattle.std.specs.Prelude.{ℕ, List, [], ◌∷◌, Bool, true, cond, ◌&&◌}
 
 -- every test of a row holds
 abbrev pub every : List Bool → Bool

@@ -1,22 +1,15 @@
 -- Configuration accesses: what an accepted one has passed, and what it does.
 use mathlib.Core.Path.{◌≡◌, refl, sym, ap, subst, ◌∙◌}
-use mathlib.Core.Bool.{Bool, true, false, cond, not, ◌&&◌}
-use mathlib.Core.List.{List, [], ◌∷◌, ◌++◌}
-use Prim.Native.Nat.{ℕ, ◌+◌, ◌<◌, ◌≤◌, ◌^◌}
+use mathlib.Core.Bool.{Bool, true, false, not, ◌&&◌}
+use mathlib.Core.List.{List, [], ◌∷◌}
+use Prim.Native.Nat.{ℕ, ◌<◌, ◌≤◌}
 use native.Mathlib.Omega.{arith}
-use borrow.Author.Tests.{le-ltb, eq-eqb, ltb-false, eqb-true, eqb-false}
-use lib.ListN.{length, take, drop, length-append, length-drop}
-use lib.Seq.{paste, take_all, take_at, drop-append-add, drop-drop}
-use lib.Dec.{ltb, eqb, lit≤}
+use borrow.Author.Tests.{eq-eqb, ltb-false, eqb-true, eqb-false}
+use lib.ListN.{length}
+use lib.Dec.{ltb, eqb}
 use Rattle.refusals.specs.Table.{refused_by, config_order}
 use Rattle.tags.specs.Tags.{lowest, available}
 use Rattle.tags.proofs.Tags.{lowest_is}
-use Rattle.tlp.specs.declared.Written.{Written}
-use Rattle.tlp.specs.declared.request.Target.{Target}
-use Rattle.tlp.specs.declared.request.Target.TheVariants.{Memory, Config0, Config1}
-use Rattle.tlp.specs.declared.request.Request.{Request}
-use Rattle.tlp.specs.Bytes.{bytes, write_header, area_after}
-use Rattle.tlp.specs.Request.{target_bytes, request_bytes}
 use Rattle.ecam.specs.declared.Route.{Route}
 use Rattle.ecam.specs.declared.Route.TheVariants.{OutOfRange, Local, Type0, Type1, NotRouted, DeviceNotZero}
 use Rattle.ecam.specs.Route.{route, number_of}

@@ -1,21 +1,20 @@
 -- The laws on verdicts and on what a completion's bytes are read as.
-use Prim.Native.Nat.{ℕ, ◌+◌, ◌-◌, ◌*◌, ◌%◌, ◌≤◌, ◌<◌, min}
+use Prim.Native.Nat.{ℕ, ◌+◌, ◌*◌, ◌%◌, ◌≤◌, ◌<◌}
 use mathlib.Core.Path.{◌≡◌, refl, sym, ap, ◌∙◌}
-use mathlib.Core.Bool.{Bool, true, false, cond, not, ◌&&◌, ◌||◌}
+use mathlib.Core.Bool.{Bool, true, false, cond, not, ◌&&◌}
 use mathlib.Core.Logic.{◌⊎◌, inl, inr}
 use mathlib.Core.List.{List, [], ◌∷◌}
 use native.Mathlib.Omega.{arith}
 use native.Mathlib.Nat.{mod-lt}
-use lib.ListN.{length, get_or, take, drop}
+use lib.ListN.{length, take}
 use lib.Dec.{ltb, leb, eqb}
-use borrow.Author.Tests.{ltb-true, leb-true, eqb-true, ne_eqb, not-true}
-use Rattle.common.proofs.Tests.{row, and_left, and_right, or_either}
+use borrow.Author.Tests.{leb-true, eqb-true, not-true}
+use Rattle.common.proofs.Tests.{row, and_right, or_either}
 use Rattle.tlp.specs.declared.completion.Completion.{Completion}
 use Rattle.tlp.specs.declared.completion.CompletionRead.{CompletionRead}
 use Rattle.tlp.specs.declared.completion.CompletionRead.TheVariants.{Header, Malformed}
-use Rattle.tlp.specs.Completion.{valid_payload, valid_completion, completion_in, completion_reserved, accept_completion, read_completion}
+use Rattle.tlp.specs.Completion.{valid_completion, completion_in, completion_reserved, accept_completion, read_completion}
 use Rattle.tlp.proofs.Ranges.{completion_ranges}
-use Rattle.verdict.specs.declared.Verdict.{Verdict}
 use Rattle.verdict.specs.declared.Verdict.TheVariants.{Unexpected, Good, Poisoned, Failed}
 use Rattle.machine.specs.State.{is_open}
 use Rattle.machine.specs.Verdict.{cause_of, useful, in_order, received, memory_verdict}

@@ -1,6 +1,6 @@
 -- The verbs on tags and slots, answers, and a fresh bridge. What speaks of no table is defined in `verdict` and `parts`, and
 -- passed on.
-use Rattle.std.specs.Prelude.{ℕ, ◌+◌, ◌-◌, ◌≡◌, ◌≢◌, Bool, cond, replicate, eqb}
+use Rattle.std.specs.Prelude.{ℕ, ◌+◌, ◌-◌, ◌≢◌, Bool, cond, replicate, eqb}
 use Rattle.bits.specs.Bits.{set_bit, clear_bit}
 use Rattle.tags.specs.Tags.{lowest}
 use Rattle.address.specs.declared.Settings.{Settings}

@@ -1,9 +1,9 @@
 -- 01's refusal table ('Numbers on the refusal slip'): the numbers, the response and the change of each row, and for each call
 -- the order in which its refusals are tried.
-use Rattle.std.specs.Prelude.{ℕ, List, [], ◌∷◌, Bool, true, false, cond, eqb}
+use Rattle.std.specs.Prelude.{ℕ, List, [], ◌∷◌, Bool, cond, eqb}
 use Rattle.common.specs.Decode.{slave_unexpected_completion, slave_illegal_burst}
 use Rattle.refusals.specs.declared.Response.{Response}
-use Rattle.refusals.specs.declared.Response.TheVariants.{Nothing, Okay, Slverr, Decerr, Wait}
+use Rattle.refusals.specs.declared.Response.TheVariants.{Nothing, Slverr, Decerr, Wait}
 
 -- ---- the numbers
 

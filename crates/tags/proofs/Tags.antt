@@ -2,21 +2,20 @@
 use mathlib.Core.Path.{◌≡◌, refl, sym, ap, ◌∙◌, subst, subst⁻¹}
 use mathlib.Core.List.{List, [], ◌∷◌, ◌++◌}
 use mathlib.Core.Bool.{Bool, true, false, cond, not}
-use Prim.Native.Nat.{ℕ, zero, suc, ◌+◌, ◌-◌, ◌*◌, ◌/◌, ◌%◌, ◌^◌, ◌≤◌, ◌<◌, zero-le, suc-le-suc}
-use native.Mathlib.Nat.{not-suc-le-zero, le_of_suc-le-suc, zero-lt-suc, le_refl, le_of_lt, lt_of_lt_of_le, sub-zero, add-zero, eq-or-lt_of_le, mod-lt}
+use Prim.Native.Nat.{ℕ, zero, suc, ◌+◌, ◌-◌, ◌/◌, ◌%◌, ◌^◌, ◌≤◌, ◌<◌, zero-le, suc-le-suc}
+use native.Mathlib.Nat.{not-suc-le-zero, le_of_suc-le-suc, zero-lt-suc, le_refl, le_of_lt, sub-zero, add-zero, eq-or-lt_of_le, mod-lt}
 use native.Mathlib.Omega.{arith}
-use mathlib.Core.Logic.{◌⊎◌, inl, inr, ⊎_elim}
+use mathlib.Core.Logic.{⊎_elim}
 use lib.ListN.{length, get_or, take, drop}
-use lib.Seq.{take-suc, get_or-drop, drop-cons}
+use lib.Seq.{take-suc, get_or-drop}
 use lib.Arith.{lt-one}
 use lib.Pow.{pow_pos}
 use lib.Count.{ones, ones_step, count_trailing_zeros, under}
-use Rattle.bits.specs.Bits.{bit, is_set, set_bit, clear_bit}
-use Rattle.bits.specs.Laws.{IsSetAt, IsClearAt}
-use Rattle.bits.proofs.Bits.{first_bit, next_bit, bit_small, half_fits, set_bit_lem, clear_bit_lem, bit_set, bit_clear, same_bit, none_above, set_sets, clear_clears}
+use Rattle.bits.specs.Bits.{is_set, set_bit, clear_bit}
+use Rattle.bits.proofs.Bits.{first_bit, next_bit, bit_small, half_fits, bit_set, bit_clear, same_bit, none_above, set_sets, clear_clears}
 use Rattle.bits.proofs.Words.{not_bits}
-use Rattle.tags.specs.Tags.{free_from, free_tags, lowest, available, without, lowest_few}
-use Rattle.tags.specs.Laws.{FreeTag, ListedIsFree, Listed, FreeIsListed, Rising, Lowest, LowestIs, LowestByZeros, AvailableByOnes, AvailableWithin, AllFree, TakeFirst, TakeOneLess, FreeOneMore, TakeFewLeaves, TakeOneByOne, TurnTakes}
+use Rattle.tags.specs.Tags.{free_from, free_tags, lowest, available, without}
+use Rattle.tags.specs.Laws.{ListedIsFree, FreeIsListed, Rising, LowestIs, LowestByZeros, AvailableByOnes, AvailableWithin, AllFree, TakeFirst, TakeOneLess, FreeOneMore, TakeFewLeaves, TakeOneByOne, TurnTakes}
 
 differ : (i j : ℕ) → i < j → i ≡ j → ⊥
 differ i j h e = omega arith

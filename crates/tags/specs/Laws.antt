@@ -1,5 +1,5 @@
 -- What is proved of free tags, for every number n of them.
-use Rattle.std.specs.Prelude.{◌≡◌, List, ◌∷◌, true, false, ℕ, suc, ◌+◌, ◌-◌, ◌^◌, ◌≤◌, ◌<◌, length, get_or, take, drop}
+use Rattle.std.specs.Prelude.{◌≡◌, List, ◌∷◌, true, false, ℕ, suc, ◌-◌, ◌^◌, ◌≤◌, ◌<◌, get_or, drop}
 use Rattle.std.specs.Int.Count.{ones, count_trailing_zeros}
 use Rattle.bits.specs.Bits.{is_set, set_bit, clear_bit}
 use Rattle.tags.specs.Tags.{free_tags, lowest, available, without, lowest_few}

@@ -1,5 +1,5 @@
 -- One turn of a sum, and what is reached for one address.
-use Rattle.std.proofs.Common.{◌≡◌, ℕ, suc, ◌+◌, ◌%◌, ◌^◌, Bool, true, false, cond, not, eqb, List, get_or, sym, refl, ◌∙◌, add-one}
+use Rattle.std.proofs.Common.{◌≡◌, ℕ, ◌+◌, ◌%◌, ◌^◌, Bool, true, false, cond, not, eqb, List, get_or, sym, refl, ◌∙◌, add-one}
 use mathlib.Core.Bool.{false≢true}
 use Rattle.address.specs.declared.Windows.{Windows}
 use Rattle.address.specs.Windows.{axi, window_of, found_number, translated}

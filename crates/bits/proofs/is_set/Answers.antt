@@ -1,4 +1,3 @@
-use borrow.Author.Rules.{rules}
 use mathlib.Core.Path.{refl, sym}
 use Rattle.bits.specs.Bits.{bit, is_set}
 use Rattle.bits.proofs.Bits.{none_above}

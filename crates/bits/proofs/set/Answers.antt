@@ -1,8 +1,6 @@
-use borrow.Author.Rules.{rules}
 use borrow.Author.Tests.{le-ltb, lt-ltb, eq-eqb, ne_eqb}
 use mathlib.Core.Path.{◌≡◌}
-use mathlib.Core.Bool.{false, true}
-use native.Mathlib.Omega.{arith}
+use mathlib.Core.Bool.{false}
 use Rattle.bits.specs.Bits.{bit, is_set, set_bit}
 use Rattle.bits.proofs.Bits.{clear_bit_lem, sum_fits}
 use Rattle.bits.proofs.Words.{shifted_one}

@@ -1,8 +1,8 @@
 use mathlib.Core.Path.{◌≡◌, refl, ap, ◌∙◌}
-use Prim.Native.Nat.{ℕ, ◌≤◌, ◌-◌, zero-le}
+use Prim.Native.Nat.{ℕ, zero-le}
 use native.Mathlib.Numerals.{add-one}
 use native.Mathlib.Omega.{arith}
-use lib.ListN.{length, length-set, get_or, replicate, length-replicate, get_or-replicate}
+use lib.ListN.{length-set, get_or, replicate, length-replicate, get_or-replicate}
 use lib.Seq.{paste, paste-zero, paste-suc}
 use Rattle.common.proofs.zero_at.Goals as goal
 
