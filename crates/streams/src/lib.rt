@@ -1,5 +1,6 @@
-// Standard input and standard output, moved whole. A call that fails is said on standard error, in one line, where it
-// fails: the end of the input is no failure, and neither function takes the one for the other.
+// Standard input and standard output, moved whole, through the reader and the writer that a program hands down. A call that
+// fails is said on standard error, in one line, where it fails: the end of the input is no failure, and neither function takes
+// the one for the other.
 #![tactic(auto)]
 
 ghost use Rattle.std.specs.Prelude.{◌≡◌, true, false, ◌≤◌, length, take};
