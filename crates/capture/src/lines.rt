@@ -34,8 +34,15 @@ fn name(l: Lines, out: &mut [u8; OUT], k: u64) -> Lines {
 }
 
 // An event's number, its name and, unless 0, its refusal number.
-fn say_event(l: Lines, out: &mut [u8; OUT], event: u64, which: u64, refusal: u64) -> Lines {
-    let a = begin(l, out);
+fn say_event(
+    rt: &(impl Print + Eprint),
+    l: Lines,
+    out: &mut [u8; OUT],
+    event: u64,
+    which: u64,
+    refusal: u64,
+) -> Lines {
+    let a = begin(rt, l, out);
     let b = number(a, out, event);
     let c = name(b, out, which);
     if refusal == 0 {
@@ -48,6 +55,7 @@ fn say_event(l: Lines, out: &mut [u8; OUT], event: u64, which: u64, refusal: u64
 
 // The lines of so many rows, after so many events.
 pub fn say_events(
+    rt: &(impl Print + Eprint),
     l: Lines,
     out: &mut [u8; OUT],
     rows: &[u64; CELLS],
@@ -61,8 +69,8 @@ pub fn say_events(
         if played <= k {
             return p;
         }
-        event = std::num::wrapping_add_u64(event, 1);
-        p = say_event(p, out, event, rows[ROW * k], rows[ROW * k + 1]);
+        event = event.wrapping_add(1);
+        p = say_event(rt, p, out, event, rows[ROW * k], rows[ROW * k + 1]);
         k += 1;
     }
     p
@@ -83,8 +91,8 @@ pub fn say_first(l: Lines, out: &mut [u8; OUT]) -> Lines {
 }
 
 // The last line.
-pub fn say_last(l: Lines, out: &mut [u8; OUT], r: Reader) -> Lines {
-    let a = begin(l, out);
+pub fn say_last(rt: &(impl Print + Eprint), l: Lines, out: &mut [u8; OUT], r: Reader) -> Lines {
+    let a = begin(rt, l, out);
     let phase = r.phase;
     match phase {
         Phase::Ended => {

@@ -1,6 +1,8 @@
 // Plays a capture, read from standard input, on a bridge with the settings of the worked examples, and prints a line for each event.
 // Input is taken in the blocks that the system hands over, at most 2^64 - 1 of them. A read that fails is said on
 // standard error and counts as the end of the input; a write that fails is said there and ends the program.
+#![tactic(auto)]
+
 mod lines;
 mod text;
 
@@ -12,13 +14,14 @@ use records::{LONGEST, Reader};
 use replay::event::behind;
 use replay::play::first_of;
 use replay::replay::replay;
+use std::io::Read;
 use text::{Lines, OUT, flush};
 
 // The bytes asked of standard input at once.
 const BLOCK: usize = 65536;
 
 // What a player holds between two calls.
-#[derive(Drop)]
+#[derive(Clone, Copy)]
 struct Player {
     bridge: Bridge,
     reader: Reader,
@@ -40,6 +43,7 @@ fn further(at: usize, used: usize, length: usize) -> usize {
 
 // Some events of a block, from the player's place on, and their lines.
 fn play_some(
+    rt: &(impl Print + Eprint),
     p: Player,
     store: &mut [u8],
     area: &mut [u8],
@@ -57,7 +61,7 @@ fn play_some(
     Player {
         bridge: next,
         reader: reader,
-        lines: say_events(said, out, rows, r.events, x.played),
+        lines: say_events(rt, said, out, rows, r.events, x.played),
         at: further(p.at, x.used, block.len()),
     }
 }
@@ -83,6 +87,7 @@ fn is_read(p: Player, length: usize) -> bool {
 
 // A block. Each turn reads a byte or more, so as many turns as it has bytes are enough.
 fn play_block(
+    rt: &(impl Print + Eprint),
     first: Player,
     store: &mut [u8],
     area: &mut [u8],
@@ -98,7 +103,7 @@ fn play_block(
         if is_read(p, block.len()) {
             return p;
         }
-        let next = play_some(p, store, area, rows, held, block, out);
+        let next = play_some(rt, p, store, area, rows, held, block, out);
         p = next;
         left -= 1;
     }
@@ -107,6 +112,8 @@ fn play_block(
 
 // The next block of standard input; the player's place is then its length.
 fn play_next(
+    input: &mut impl Read,
+    rt: &(impl Print + Eprint),
     p: Player,
     store: &mut [u8],
     area: &mut [u8],
@@ -115,10 +122,10 @@ fn play_next(
     block: &mut [u8],
     out: &mut [u8; OUT],
 ) -> Player {
-    let n = streams::read_some(block);
-    let mut q = play_block(p, store, area, rows, held, first_of(block, n), out);
+    let n = streams::read_some(input, rt, block);
+    let mut q = play_block(rt, p, store, area, rows, held, first_of(block, n), out);
     let l = q.lines;
-    q.lines = flush(l, out);
+    q.lines = flush(rt, l, out);
     q.at = n;
     q
 }
@@ -133,6 +140,8 @@ fn is_over(p: Player) -> bool {
 
 // All blocks, at most 2^64 - 1.
 fn play_all(
+    input: &mut impl Read,
+    rt: &(impl Print + Eprint),
     first: Player,
     store: &mut [u8],
     area: &mut [u8],
@@ -144,7 +153,7 @@ fn play_all(
     let mut p = first;
     let mut left = 18446744073709551615u64;
     while 0 < left {
-        let next = play_next(p, store, area, rows, held, block, out);
+        let next = play_next(input, rt, p, store, area, rows, held, block, out);
         p = next;
         if is_over(p) {
             return p;
@@ -166,7 +175,8 @@ fn first_player(l: Lines) -> Player {
     }
 }
 
-fn main() {
+fn main(rt: HostRuntime) {
+    let mut input = rt.stdin();
     let mut out = [0u8; OUT];
     let mut store = [0u8; STORE_SIZE];
     let mut area = [0u8; AREA_SIZE];
@@ -181,6 +191,8 @@ fn main() {
         &mut out,
     );
     let p = play_all(
+        &mut input,
+        &rt,
         first_player(begun),
         &mut store,
         &mut area,
@@ -191,5 +203,5 @@ fn main() {
     );
     let l = p.lines;
     let r = p.reader;
-    flush(say_last(l, &mut out, r), &out);
+    flush(&rt, say_last(&rt, l, &mut out, r), &out);
 }

@@ -1,12 +1,14 @@
 // Lines for standard output, gathered in a buffer.
 
+use std::io::writer;
+
 // The buffer, and more than the longest line.
 pub const OUT: usize = 32768;
 
 const LINE: usize = 80;
 
 // How many bytes of the buffer wait to be written, and whether all before them were.
-#[derive(Drop)]
+#[derive(Clone, Copy)]
 pub struct Lines {
     pub at: usize,
     pub written: bool,
@@ -36,30 +38,30 @@ fn put_decimal(out: &mut [u8; OUT], at: usize, n: u64) -> usize {
     put_all(out, at, &digits[..k])
 }
 
-fn write_front(out: &[u8], n: usize) -> bool {
+fn write_front(rt: &(impl Print + Eprint), out: &[u8], n: usize) -> bool {
     if n <= out.len() {
-        return streams::write_all(&out[0..n]);
+        return streams::write_all(&mut writer(rt), rt, &out[0..n]);
     }
     false
 }
 
 // What waits is written.
-pub fn flush(l: Lines, out: &[u8; OUT]) -> Lines {
+pub fn flush(rt: &(impl Print + Eprint), l: Lines, out: &[u8; OUT]) -> Lines {
     if !l.written {
         return l;
     }
     Lines {
         at: 0,
-        written: write_front(out, l.at),
+        written: write_front(rt, out, l.at),
     }
 }
 
 // There is room for a line.
-pub fn begin(l: Lines, out: &[u8; OUT]) -> Lines {
+pub fn begin(rt: &(impl Print + Eprint), l: Lines, out: &[u8; OUT]) -> Lines {
     if l.at < OUT - LINE {
         return l;
     }
-    flush(l, out)
+    flush(rt, l, out)
 }
 
 pub fn word(l: Lines, out: &mut [u8; OUT], s: &[u8]) -> Lines {

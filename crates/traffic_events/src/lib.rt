@@ -1,4 +1,6 @@
 // The events of the bridge: each plays one record on the bridge and prints its line.
+#![tactic(auto)]
+
 mod lines;
 mod ticks;
 
@@ -11,7 +13,7 @@ use traffic_file::record;
 use traffic_text::input::{flag_at, long_at, word_at};
 use traffic_text::sum::sum_of;
 
-#[derive(Drop)]
+#[derive(Clone, Copy)]
 pub struct Player {
     pub bridge: Bridge,
     // The checksum of the store.
@@ -40,13 +42,13 @@ fn shown_of(b: Bridge, event: u64, sum: u32) -> Shown {
 }
 
 // The player of a bridge that was just made, after the log's first line.
-pub fn first_player(r: Answered, sum: u32) -> Player {
+pub fn first_player(rt: &(impl Print + Eprint), r: Answered, sum: u32) -> Player {
     let b = r.bridge;
     let answer = r.answer;
     Player {
         bridge: b,
         sum: sum,
-        written: say_new(shown_of(b, 0, sum), answer.number),
+        written: say_new(rt, shown_of(b, 0, sum), answer.number),
     }
 }
 
@@ -78,6 +80,7 @@ fn call_with_area(b: Bridge, kind: u32, f: &[u8], bytes: &[u8], area: &mut [u8])
 
 // A read, a write or a configuration access, with the area that is lent.
 fn play_with_area(
+    rt: &(impl Print + Eprint),
     p: Player,
     event: u64,
     kind: u32,
@@ -92,7 +95,7 @@ fn play_with_area(
     Player {
         bridge: next,
         sum: p.sum,
-        written: say_with_area(shown_of(next, event, p.sum), kind, answer, area),
+        written: say_with_area(rt, shown_of(next, event, p.sum), kind, answer, area),
     }
 }
 
@@ -112,6 +115,7 @@ fn call_with_store(b: Bridge, kind: u32, f: &[u8], bytes: &[u8], store: &mut [u8
 
 // A completion, ticks, the link or a release, with the first n bytes of the store.
 fn play_with_store(
+    rt: &(impl Print + Eprint),
     p: Player,
     event: u64,
     kind: u32,
@@ -131,24 +135,24 @@ fn play_with_store(
     Player {
         bridge: next,
         sum: sum,
-        written: say_plain(shown_of(next, event, sum), kind, answer),
+        written: say_plain(rt, shown_of(next, event, sum), kind, answer),
     }
 }
 
 // A look, with the part of the store that is lent.
-fn play_look(p: Player, event: u64, slot: u32, store: &[u8]) -> Player {
+fn play_look(rt: &(impl Print + Eprint), p: Player, event: u64, slot: u32, store: &[u8]) -> Player {
     let b = p.bridge;
     let number = b.take_number(store, slot);
     let part = b.look(store, slot);
     Player {
         bridge: b,
         sum: p.sum,
-        written: say_look(shown_of(b, event, p.sum), number, part),
+        written: say_look(rt, shown_of(b, event, p.sum), number, part),
     }
 }
 
 // A message, which is lent neither store nor area.
-fn play_message(p: Player, event: u64, bytes: &[u8]) -> Player {
+fn play_message(rt: &(impl Print + Eprint), p: Player, event: u64, bytes: &[u8]) -> Player {
     let b = p.bridge;
     let r = b.message(bytes);
     let next = r.bridge;
@@ -156,12 +160,13 @@ fn play_message(p: Player, event: u64, bytes: &[u8]) -> Player {
     Player {
         bridge: next,
         sum: p.sum,
-        written: say_plain(shown_of(next, event, p.sum), record::MESSAGE, answer),
+        written: say_plain(rt, shown_of(next, event, p.sum), record::MESSAGE, answer),
     }
 }
 
 // A record of the bridge's events, with its fixed fields and its variable bytes.
 pub fn play_event(
+    rt: &(impl Print + Eprint),
     p: Player,
     event: u64,
     kind: u32,
@@ -173,18 +178,18 @@ pub fn play_event(
     let n = index(word_at(f, 0));
     if record::lends_area(kind) {
         if n <= area.len() {
-            return play_with_area(p, event, kind, f, bytes, &mut area[0..n]);
+            return play_with_area(rt, p, event, kind, f, bytes, &mut area[0..n]);
         }
         return p;
     }
     if kind == record::MESSAGE {
-        return play_message(p, event, bytes);
+        return play_message(rt, p, event, bytes);
     }
     if kind == record::LOOK {
         if n <= store.len() {
-            return play_look(p, event, word_at(f, 4), &store[0..n]);
+            return play_look(rt, p, event, word_at(f, 4), &store[0..n]);
         }
         return p;
     }
-    play_with_store(p, event, kind, f, bytes, store, n)
+    play_with_store(rt, p, event, kind, f, bytes, store, n)
 }

@@ -9,7 +9,7 @@ use traffic_text::line::{
 use traffic_text::sum::sum_of;
 
 // What a line shows besides its event's answer.
-#[derive(Drop)]
+#[derive(Clone, Copy)]
 pub struct Shown {
     pub event: u64,
     // What the local words show: 018, 134, 138, 13C and 144, then 148 and 154.
@@ -26,7 +26,7 @@ fn put_response(line: &mut [u8; ROOM], at: usize, r: Response) -> usize {
         line,
         at,
         b" OKAY EXOKAY SLVERR DECERR none wait",
-        std::num::wrapping_add_u32(response_code(r), 1),
+        response_code(r).wrapping_add(1),
     )
 }
 
@@ -67,48 +67,54 @@ fn put_errors(line: &mut [u8; ROOM], at: usize, status: u32, oldest: u32) -> usi
 }
 
 // The registers, the interrupt line and the store; then the line is printed.
-fn say(line: &mut [u8; ROOM], at: usize, s: Shown) -> bool {
+fn say(rt: &(impl Print + Eprint), line: &mut [u8; ROOM], at: usize, s: Shown) -> bool {
     let words = s.words;
     let shown = put_registers(line, at, words);
     let name = token(line, shown, b"line");
     let high = flag(line, name, s.line);
     let stored = named_word(line, high, b"store", s.sum);
     let end = put_errors(line, stored, words[5], words[6]);
-    print(line, end)
+    print(rt, line, end)
 }
 
 // The first line, after the header.
-pub fn say_new(s: Shown, refusal: u32) -> bool {
+pub fn say_new(rt: &(impl Print + Eprint), s: Shown, refusal: u32) -> bool {
     let mut line = [0u8; ROOM];
     let name = put_all(&mut line, 0, b"new");
     let numbered = number(&mut line, name, refusal);
-    say(&mut line, numbered, s)
+    say(rt, &mut line, numbered, s)
 }
 
 // A read, a write or a configuration access, after it was lent the area.
-pub fn say_with_area(s: Shown, kind: u32, a: Answer, area: &[u8]) -> bool {
+pub fn say_with_area(
+    rt: &(impl Print + Eprint),
+    s: Shown,
+    kind: u32,
+    a: Answer,
+    area: &[u8],
+) -> bool {
     let mut line = [0u8; ROOM];
     let name = begin(&mut line, s.event, kind);
     let answered = put_answer(&mut line, name, a);
     let summed = put_area(&mut line, answered, area);
-    say(&mut line, summed, s)
+    say(rt, &mut line, summed, s)
 }
 
 // A completion, ticks, the link, a release or a message.
-pub fn say_plain(s: Shown, kind: u32, a: Answer) -> bool {
+pub fn say_plain(rt: &(impl Print + Eprint), s: Shown, kind: u32, a: Answer) -> bool {
     let mut line = [0u8; ROOM];
     let name = begin(&mut line, s.event, kind);
     let answered = put_answer(&mut line, name, a);
-    say(&mut line, answered, s)
+    say(rt, &mut line, answered, s)
 }
 
 // A look, with its number and the part of the store that it gave.
-pub fn say_look(s: Shown, refusal: u32, part: &[u8]) -> bool {
+pub fn say_look(rt: &(impl Print + Eprint), s: Shown, refusal: u32, part: &[u8]) -> bool {
     let mut line = [0u8; ROOM];
     let name = begin(&mut line, s.event, record::LOOK);
     let numbered = number(&mut line, name, refusal);
     let counted = named(&mut line, numbered, b"part", part.len() as u64);
     let summed = word(&mut line, counted, sum_of(part));
     let shown = put_part(&mut line, summed, part);
-    say(&mut line, shown, s)
+    say(rt, &mut line, shown, s)
 }

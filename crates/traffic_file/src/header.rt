@@ -5,6 +5,7 @@ ghost use Rattle.traffic_file.specs.Header.{is_list, more_size, store_size, is_r
 use crate::reading::{Place, first_place};
 use crate::record;
 use common::index;
+use std::io::{Read, writer};
 use streams::Fetched;
 use traffic_text::input::{fetch, word_at};
 
@@ -62,35 +63,40 @@ fn is_right(h: &[u8]) -> bool
 }
 
 // The file has no right header.
-fn refused(line: &[u8]) -> bool {
-    streams::write_all(line);
+fn refused(rt: &(impl Print + Eprint), line: &[u8]) -> bool {
+    streams::write_all(&mut writer(rt), rt, line);
     false
 }
 
 // Whether a part of the header came; where the file ends in it, it is cut.
-fn has_come(part: Fetched) -> bool {
+fn has_come(rt: &(impl Print + Eprint), part: Fetched) -> bool {
     match part {
         Fetched::All => true,
-        Fetched::Ended => refused(b"cut header at 0\n"),
+        Fetched::Ended => refused(rt, b"cut header at 0\n"),
         Fetched::Failed => false,
     }
 }
 
 // What follows the header; whether it came where it should.
-fn read_more(h: &[u8], more: &mut [u8]) -> bool {
+fn read_more(input: &mut impl Read, rt: &(impl Print + Eprint), h: &[u8], more: &mut [u8]) -> bool {
     if is_list(h) {
-        return has_come(fetch(more, more_size(h)));
+        return has_come(rt, fetch(input, rt, more, more_size(h)));
     }
     true
 }
 
 // Reads the header and what follows it; whether they came and are right.
-pub fn read_header(h: &mut [u8], more: &mut [u8]) -> bool {
-    if !has_come(fetch(h, HEADER)) {
+pub fn read_header(
+    input: &mut impl Read,
+    rt: &(impl Print + Eprint),
+    h: &mut [u8],
+    more: &mut [u8],
+) -> bool {
+    if !has_come(rt, fetch(input, rt, h, HEADER)) {
         return false;
     }
     if !is_right(h) {
-        return refused(b"damaged header at 0\n");
+        return refused(rt, b"damaged header at 0\n");
     }
-    read_more(h, more)
+    read_more(input, rt, h, more)
 }

@@ -3,12 +3,13 @@ ghost use Rattle.std.specs.Prelude.{◌≡◌};
 
 use crate::record;
 use common::wide;
+use std::io::Read;
 use streams::Fetched;
 use traffic_text::input::{fetch, word_at};
 use traffic_text::line::{ROOM, print, put_all, put_decimal, token};
 
 // Where the next record begins.
-#[derive(Drop)]
+#[derive(Clone, Copy)]
 pub struct Place {
     // The events before it.
     pub events: u64,
@@ -19,7 +20,7 @@ pub struct Place {
 }
 
 // The kind of a record, 0 where there is none to play, the number of its variable bytes, and the ticks that it asks for.
-#[derive(Drop)]
+#[derive(Clone, Copy)]
 pub struct Entry {
     pub kind: u32,
     pub length: usize,
@@ -59,107 +60,137 @@ impl Place {
     // After a record.
     pub fn past(self, e: Entry) -> Place {
         let fixed = record::fixed_size(e.kind) as u64;
-        let fields = std::num::wrapping_add_u64(std::num::wrapping_add_u64(self.at, 1), fixed);
+        let fields = self.at.wrapping_add(1).wrapping_add(fixed);
         Place {
-            events: std::num::wrapping_add_u64(self.events, 1),
-            at: std::num::wrapping_add_u64(fields, e.length as u64),
+            events: self.events.wrapping_add(1),
+            at: fields.wrapping_add(e.length as u64),
             ticks: self.ticks_with(e.ticks),
         }
     }
 
     // The ticks asked for, with those of one more record.
     fn ticks_with(self, ticks: u32) -> u64 {
-        std::num::wrapping_add_u64(self.ticks, ticks as u64)
+        self.ticks.wrapping_add(ticks as u64)
     }
 
     // The file is cut or damaged at the record that begins here.
-    fn fault(self, what: &[u8], end: bool) -> Entry {
+    fn fault(self, rt: &(impl Print + Eprint), what: &[u8], end: bool) -> Entry {
         let mut line = [0u8; ROOM];
         let said = put_all(&mut line, 0, what);
         let name = put_name(&mut line, said, self.events, end);
         let place = token(&mut line, name, b"at ");
         let last = put_decimal(&mut line, place, self.at);
-        print(&mut line, last);
+        print(rt, &mut line, last);
         none()
     }
 
-    fn cut(self, end: bool) -> Entry {
-        self.fault(b"cut", end)
+    fn cut(self, rt: &(impl Print + Eprint), end: bool) -> Entry {
+        self.fault(rt, b"cut", end)
     }
 
-    fn damaged(self, end: bool) -> Entry {
-        self.fault(b"damaged", end)
+    fn damaged(self, rt: &(impl Print + Eprint), end: bool) -> Entry {
+        self.fault(rt, b"damaged", end)
     }
 
     // The line after a right end record.
-    fn say_end(self) -> Entry {
+    fn say_end(self, rt: &(impl Print + Eprint)) -> Entry {
         let mut line = [0u8; ROOM];
         let name = put_all(&mut line, 0, b"end ");
         let last = put_decimal(&mut line, name, self.events);
-        print(&mut line, last);
+        print(rt, &mut line, last);
         none()
     }
 
     // The end record: its number is that of the events, and nothing follows.
-    fn finish(self, f: &[u8]) -> Entry {
+    fn finish(self, input: &mut impl Read, rt: &(impl Print + Eprint), f: &[u8]) -> Entry {
         let mut more = [0u8; 1];
         if (word_at(f, 0) as u64) != self.events {
-            return self.damaged(true);
+            return self.damaged(rt, true);
         }
-        match fetch(&mut more, 1) {
-            Fetched::All => self.damaged(true),
-            Fetched::Ended => self.say_end(),
+        match fetch(input, rt, &mut more, 1) {
+            Fetched::All => self.damaged(rt, true),
+            Fetched::Ended => self.say_end(rt),
             Fetched::Failed => none(),
         }
     }
 
     // The variable bytes of a record whose fixed fields are right.
-    fn read_bytes(self, kind: u32, f: &[u8], bytes: &mut [u8]) -> Entry {
+    fn read_bytes(
+        self,
+        input: &mut impl Read,
+        rt: &(impl Print + Eprint),
+        kind: u32,
+        f: &[u8],
+        bytes: &mut [u8],
+    ) -> Entry {
         let length = record::variable_size(kind, f);
-        match fetch(bytes, length) {
+        match fetch(input, rt, bytes, length) {
             Fetched::All => Entry {
                 kind: kind,
                 length: length,
                 ticks: record::ticks(kind, f),
             },
-            Fetched::Ended => self.cut(false),
+            Fetched::Ended => self.cut(rt, false),
             Fetched::Failed => none(),
         }
     }
 
     // The rest of a record whose kind and fixed fields are read.
-    fn read_rest(self, kind: u32, f: &[u8], bytes: &mut [u8], most: usize) -> Entry {
+    fn read_rest(
+        self,
+        input: &mut impl Read,
+        rt: &(impl Print + Eprint),
+        kind: u32,
+        f: &[u8],
+        bytes: &mut [u8],
+        most: usize,
+    ) -> Entry {
         if kind == record::END {
-            return self.finish(f);
+            return self.finish(input, rt, f);
         }
         if record::is_wrong(kind, f, most) {
-            return self.damaged(false);
+            return self.damaged(rt, false);
         }
         if record::TICKS < self.ticks_with(record::ticks(kind, f)) {
-            return self.damaged(false);
+            return self.damaged(rt, false);
         }
-        self.read_bytes(kind, f, bytes)
+        self.read_bytes(input, rt, kind, f, bytes)
     }
 
     // The fixed fields of a record of this kind, and the rest.
-    fn read_fields(self, kind: u32, f: &mut [u8], bytes: &mut [u8], most: usize) -> Entry {
+    fn read_fields(
+        self,
+        input: &mut impl Read,
+        rt: &(impl Print + Eprint),
+        kind: u32,
+        f: &mut [u8],
+        bytes: &mut [u8],
+        most: usize,
+    ) -> Entry {
         let n = record::fixed_size(kind);
         if n == 0 {
-            return self.damaged(false);
+            return self.damaged(rt, false);
         }
-        match fetch(f, n) {
-            Fetched::All => self.read_rest(kind, f, bytes, most),
-            Fetched::Ended => self.cut(kind == record::END),
+        match fetch(input, rt, f, n) {
+            Fetched::All => self.read_rest(input, rt, kind, f, bytes, most),
+            Fetched::Ended => self.cut(rt, kind == record::END),
             Fetched::Failed => none(),
         }
     }
 
     // The record that begins here: its fixed fields to f, its variable bytes to bytes. The file's store has so many bytes.
-    pub fn read(self, f: &mut [u8], bytes: &mut [u8], most: usize) -> Entry {
+    pub fn read(
+        self,
+        input: &mut impl Read,
+        rt: &(impl Print + Eprint),
+        f: &mut [u8],
+        bytes: &mut [u8],
+        most: usize,
+    ) -> Entry {
         let mut first = [0u8; 1];
-        match fetch(&mut first, 1) {
-            Fetched::All => self.read_fields(wide(first[0]), f, bytes, most),
-            Fetched::Ended => self.cut(false),
+        match fetch(input, rt, &mut first, 1) {
+            Fetched::All => self.read_fields(input, rt, wide(first[0]), f, bytes, most),
+            Fetched::Ended => self.cut(rt, false),
             Fetched::Failed => none(),
         }
     }

@@ -45,6 +45,7 @@ pub const STORE: usize = 40960;
 pub const TICKS: u64 = 67108864;
 
 // The bytes of the fixed fields after the kind byte, 0 for what is no kind.
+#[tactic(auto, unfolding(crate::specs::Records::fixed_size))]
 pub fn fixed_size(kind: u32) -> usize
     ensures { result ≡ fixed_size kind }
 {
@@ -68,6 +69,7 @@ pub fn fixed_size(kind: u32) -> usize
 }
 
 // How many variable bytes follow the fixed fields.
+#[tactic(auto, unfolding(crate::specs::Records::variable_size))]
 pub fn variable_size(kind: u32, f: &[u8]) -> usize
     ensures { result ≡ variable_size kind f.now }
 {
@@ -91,6 +93,7 @@ pub fn ticks(kind: u32, f: &[u8]) -> u32
     0
 }
 
+#[tactic(auto, unfolding(crate::specs::Records::lends_area))]
 pub fn lends_area(kind: u32) -> bool
     ensures { result ≡ lends_area kind }
 {
@@ -118,6 +121,7 @@ pub fn is_header(kind: u32) -> bool
 }
 
 // The length of what is lent, at most `most`.
+#[tactic(auto, unfolding(crate::specs::Records::lent_wrong))]
 fn lent_wrong(kind: u32, f: &[u8], most: usize) -> bool
     ensures { result ≡ lent_wrong kind f.now most }
 {
@@ -132,6 +136,7 @@ fn lent_wrong(kind: u32, f: &[u8], most: usize) -> bool
 }
 
 // Flags are 0 or 1, targets at most 2, and a tick is repeated 1 to 131,072 times.
+#[tactic(auto, unfolding(crate::specs::Records::rest_wrong))]
 fn rest_wrong(kind: u32, f: &[u8]) -> bool
     ensures { result ≡ rest_wrong kind f.now }
 {
@@ -145,6 +150,7 @@ fn rest_wrong(kind: u32, f: &[u8]) -> bool
     }
 }
 
+#[tactic(auto, unfolding(crate::specs::Records::is_wrong))]
 pub fn is_wrong(kind: u32, f: &[u8], most: usize) -> bool
     ensures { result ≡ is_wrong kind f.now most }
 {

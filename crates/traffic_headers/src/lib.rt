@@ -1,5 +1,7 @@
 // Header writers and readers: each plays one record, without the bridge, and prints its line. The result says whether the
 // line was written.
+#![tactic(auto)]
+
 use common::index;
 use tlp::Written;
 use tlp::completion::{Completion, CompletionRead, read_completion, write_completion};
@@ -55,23 +57,28 @@ fn completion_in(f: &[u8]) -> Completion {
     }
 }
 
-fn say_written(event: u64, kind: u32, w: Written, area: &[u8]) -> bool {
+fn say_written(rt: &(impl Print + Eprint), event: u64, kind: u32, w: Written, area: &[u8]) -> bool {
     let mut line = [0u8; ROOM];
     let name = begin(&mut line, event, kind);
     let numbered = number(&mut line, name, w.number);
     let sent = named(&mut line, numbered, b"sent", w.length as u64);
     let end = put_area(&mut line, sent, area);
-    print(&mut line, end)
+    print(rt, &mut line, end)
 }
 
-fn play_request_writer(event: u64, f: &[u8], area: &mut [u8]) -> bool {
+fn play_request_writer(rt: &(impl Print + Eprint), event: u64, f: &[u8], area: &mut [u8]) -> bool {
     let w = write_request(request_in(f), area);
-    say_written(event, record::REQUEST_WRITER, w, area)
+    say_written(rt, event, record::REQUEST_WRITER, w, area)
 }
 
-fn play_completion_writer(event: u64, f: &[u8], area: &mut [u8]) -> bool {
+fn play_completion_writer(
+    rt: &(impl Print + Eprint),
+    event: u64,
+    f: &[u8],
+    area: &mut [u8],
+) -> bool {
     let w = write_completion(completion_in(f), area);
-    say_written(event, record::COMPLETION_WRITER, w, area)
+    say_written(rt, event, record::COMPLETION_WRITER, w, area)
 }
 
 fn put_place(line: &mut [u8; ROOM], at: usize, c: ConfigAddress) -> usize {
@@ -130,13 +137,13 @@ fn put_request_read(line: &mut [u8; ROOM], at: usize, r: RequestRead) -> usize {
     }
 }
 
-fn play_request_reader(event: u64, bytes: &[u8]) -> bool {
+fn play_request_reader(rt: &(impl Print + Eprint), event: u64, bytes: &[u8]) -> bool {
     let mut line = [0u8; ROOM];
     let r = read_request(bytes);
     let name = begin(&mut line, event, record::REQUEST_READER);
     let numbered = number(&mut line, name, r.number());
     let end = put_request_read(&mut line, numbered, r);
-    print(&mut line, end)
+    print(rt, &mut line, end)
 }
 
 fn put_completion(line: &mut [u8; ROOM], at: usize, c: Completion) -> usize {
@@ -159,33 +166,47 @@ fn put_completion_read(line: &mut [u8; ROOM], at: usize, r: CompletionRead) -> u
     }
 }
 
-fn play_completion_reader(event: u64, bytes: &[u8]) -> bool {
+fn play_completion_reader(rt: &(impl Print + Eprint), event: u64, bytes: &[u8]) -> bool {
     let mut line = [0u8; ROOM];
     let r = read_completion(bytes);
     let name = begin(&mut line, event, record::COMPLETION_READER);
     let numbered = number(&mut line, name, r.number());
     let end = put_completion_read(&mut line, numbered, r);
-    print(&mut line, end)
+    print(rt, &mut line, end)
 }
 
 // A header writer, with the first n bytes of the area.
-fn play_writer(event: u64, kind: u32, f: &[u8], area: &mut [u8], n: usize) -> bool {
+fn play_writer(
+    rt: &(impl Print + Eprint),
+    event: u64,
+    kind: u32,
+    f: &[u8],
+    area: &mut [u8],
+    n: usize,
+) -> bool {
     if area.len() < n {
         return true;
     }
     if kind == record::REQUEST_WRITER {
-        return play_request_writer(event, f, &mut area[0..n]);
+        return play_request_writer(rt, event, f, &mut area[0..n]);
     }
-    play_completion_writer(event, f, &mut area[0..n])
+    play_completion_writer(rt, event, f, &mut area[0..n])
 }
 
 // A record of a header writer or reader, with its fixed fields and its variable bytes.
-pub fn play_header(event: u64, kind: u32, f: &[u8], bytes: &[u8], area: &mut [u8]) -> bool {
+pub fn play_header(
+    rt: &(impl Print + Eprint),
+    event: u64,
+    kind: u32,
+    f: &[u8],
+    bytes: &[u8],
+    area: &mut [u8],
+) -> bool {
     if record::lends_area(kind) {
-        return play_writer(event, kind, f, area, index(word_at(f, 0)));
+        return play_writer(rt, event, kind, f, area, index(word_at(f, 0)));
     }
     if kind == record::REQUEST_READER {
-        return play_request_reader(event, bytes);
+        return play_request_reader(rt, event, bytes);
     }
-    play_completion_reader(event, bytes)
+    play_completion_reader(rt, event, bytes)
 }

@@ -1,5 +1,5 @@
 -- Past the end of a list there are only zeros.
-use Rattle.std.proofs.Common.{◌≡◌, ℕ, zero, suc, ◌+◌, ◌≤◌, List, [], ◌∷◌, length, get_or, refl, arith}
+use Rattle.std.proofs.Common.{◌≡◌, ℕ, zero, suc, ◌+◌, ◌≤◌, List, [], ◌∷◌, length, refl, arith}
 use Rattle.traffic_text.specs.Numbers.{byte_at, word_at, long_at}
 
 pub byte_past : (s : List ℕ) (i : ℕ) → length s ≤ i → ◌≡◌ {A = ℕ} (byte_at s i) 0

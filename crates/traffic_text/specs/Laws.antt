@@ -1,5 +1,5 @@
 -- The checksums that docs/TRAFFIC.md gives: of no bytes, and of "123456789".
-use Rattle.std.specs.Prelude.{◌≡◌, ℕ, List, [], ◌∷◌}
+use Rattle.std.specs.Prelude.{◌≡◌, [], ◌∷◌}
 use Rattle.traffic_text.specs.Sums.{checksum}
 
 pub record Checksums : Type 0 where

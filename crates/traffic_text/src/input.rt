@@ -3,12 +3,13 @@ ghost use Rattle.std.specs.Prelude.{◌≡◌, ◌+◌, ◌*◌, ◌^◌, ◌<�
 ghost use Rattle.traffic_text.specs.Numbers.{byte_at, joined_of, word_at, long_at};
 
 use common::wide;
+use std::io::Read;
 use streams::Fetched;
 
 // The next n bytes of the file, to the front of a buffer that has room for them.
-pub fn fetch(buffer: &mut [u8], n: usize) -> Fetched {
+pub fn fetch(input: &mut impl Read, rt: &impl Eprint, buffer: &mut [u8], n: usize) -> Fetched {
     if n <= buffer.len() {
-        return streams::read_all(&mut buffer[0..n]);
+        return streams::read_all(input, rt, &mut buffer[0..n]);
     }
     Fetched::Ended
 }

@@ -1,6 +1,7 @@
 // A line of the log, made in a buffer and printed whole. Each function takes the place where the line ends and gives the new one.
 use crate::sum::sum_of;
 use common::wide64;
+use std::io::writer;
 
 // Longer than any line.
 pub const ROOM: usize = 512;
@@ -82,7 +83,7 @@ fn put_if(line: &mut [u8; ROOM], at: usize, b: u8, yes: bool) -> usize {
 // One more after a space.
 fn spaces(n: u32, b: u8) -> u32 {
     if b == b' ' {
-        return std::num::wrapping_add_u32(n, 1);
+        return n.wrapping_add(1);
     }
     n
 }
@@ -130,15 +131,15 @@ pub fn put_part(line: &mut [u8; ROOM], at: usize, part: &[u8]) -> usize {
     end
 }
 
-fn print_front(line: &[u8], end: usize) -> bool {
+fn print_front(rt: &(impl Print + Eprint), line: &[u8], end: usize) -> bool {
     if end <= line.len() {
-        return streams::write_all(&line[0..end]);
+        return streams::write_all(&mut writer(rt), rt, &line[0..end]);
     }
     false
 }
 
 // Whether the line was written.
-pub fn print(line: &mut [u8; ROOM], at: usize) -> bool {
+pub fn print(rt: &(impl Print + Eprint), line: &mut [u8; ROOM], at: usize) -> bool {
     let end = put(line, at, b'\n');
-    print_front(line, end)
+    print_front(rt, line, end)
 }

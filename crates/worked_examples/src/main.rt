@@ -1,4 +1,6 @@
 // The worked examples W1 to W12, played on the bridge. All are lent the same store and the same area.
+#![tactic(auto)]
+
 use address::{AxiAddress, Settings};
 use bridge::{Answer, Bridge, Response};
 use burst::Burst;
@@ -234,44 +236,48 @@ fn w12(store: &mut [u8; STORE_SIZE], area: &mut [u8; AREA_SIZE]) -> bool {
     )
 }
 
-fn say(text: &[u8]) -> bool {
+fn say(rt: &(impl Print + Eprint), text: &[u8]) -> bool {
     let mut line = [0u8; ROOM];
     let end = put_all(&mut line, 0, text);
-    print(&mut line, end)
+    print(rt, &mut line, end)
 }
 
-fn report(n: u64, same: bool) -> bool {
+fn report(rt: &(impl Print + Eprint), n: u64, same: bool) -> bool {
     let mut line = [0u8; ROOM];
     let name = put_all(&mut line, 0, b"W");
     let numbered = put_decimal(&mut line, name, n);
     if same {
         let end = token(&mut line, numbered, b"same");
-        return print(&mut line, end);
+        return print(rt, &mut line, end);
     }
     let end = token(&mut line, numbered, b"differs");
-    print(&mut line, end)
+    print(rt, &mut line, end)
 }
 
 // The lines of the examples; the first that cannot be written is the last.
-fn examples(store: &mut [u8; STORE_SIZE], area: &mut [u8; AREA_SIZE]) -> bool {
-    report(1, w1(store, area))
-        && report(2, w2(store, area))
-        && report(3, w3(store, area))
-        && report(4, w4(store, area))
-        && report(5, w5(store, area))
-        && report(6, w6(store, area))
-        && report(7, w7(store, area))
-        && report(8, w8(store, area))
-        && report(9, w9(store, area))
-        && report(10, w10(store, area))
-        && report(11, w11(store, area))
-        && report(12, w12(store, area))
+fn examples(
+    rt: &(impl Print + Eprint),
+    store: &mut [u8; STORE_SIZE],
+    area: &mut [u8; AREA_SIZE],
+) -> bool {
+    report(rt, 1, w1(store, area))
+        && report(rt, 2, w2(store, area))
+        && report(rt, 3, w3(store, area))
+        && report(rt, 4, w4(store, area))
+        && report(rt, 5, w5(store, area))
+        && report(rt, 6, w6(store, area))
+        && report(rt, 7, w7(store, area))
+        && report(rt, 8, w8(store, area))
+        && report(rt, 9, w9(store, area))
+        && report(rt, 10, w10(store, area))
+        && report(rt, 11, w11(store, area))
+        && report(rt, 12, w12(store, area))
 }
 
-fn main() {
+fn main(rt: HostRuntime) {
     let mut store = [0u8; STORE_SIZE];
     let mut area = [0u8; AREA_SIZE];
-    if say(b"bridge") && examples(&mut store, &mut area) {
-        say(b"done 12");
+    if say(&rt, b"bridge") && examples(&rt, &mut store, &mut area) {
+        say(&rt, b"done 12");
     }
 }
