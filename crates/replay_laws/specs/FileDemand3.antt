@@ -6,7 +6,8 @@ use Rattle.machine.specs.State.{registers_of}
 use Rattle.machine.specs.Config.{Access}
 use Rattle.machine.specs.Completions.{store_size, Held}
 use Rattle.trace.specs.Events.{read, config, Event, call, run, start}
-use Rattle.trace.specs.Claims.{BytesAt, ReadDeadlineAt, ConfigDeadlineAt, ReadOkayAt, ConfigOkayAt, LocalOkayAt, Left, AlikeAt}
+use Rattle.trace.specs.Claims.{Left}
+use Rattle.replay_laws.specs.ClaimsAt.{BytesAt, ReadDeadlineAt, ConfigDeadlineAt, ReadOkayAt, ConfigOkayAt, LocalOkayAt, AlikeAt}
 use Rattle.records.specs.Events.{Captured}
 use Rattle.records.specs.File.{file}
 use Rattle.replay.specs.Events.{stage, played_all}

@@ -4,4 +4,5 @@ pub mod Stream
 pub mod Play
 pub mod Runs
 pub mod FileDemand2
+pub mod ClaimsAt
 pub mod FileDemand3

@@ -1,4 +1,4 @@
--- Demand 3: what is claimed of every whole list of events. Each claim is said of one list first, `..At`, and then of all.
+-- Demand 3: what is claimed of every whole list of events.
 use Rattle.std.specs.Prelude.{ℕ, ◌+◌, ◌%◌, ◌*◌, ◌≤◌, ◌<◌, ◌≡◌, ◌⊎◌, Bool, true, false, cond, not, ◌&&◌, length, eqb, ltb}
 use mathlib.Core.List.{List, [], ◌∷◌, ◌++◌, map, flat_map}
 use Rattle.std.proofs.Math.Option.{Option, none, some}
@@ -64,9 +64,11 @@ sent_for sent i b q =
     (addresses 0 (pieces_of b.settings.reads q))
 
 -- at any point after a read was accepted and before it is taken
-abbrev pub BytesAt : Settings → List ℕ → (ℕ → List (List ℕ)) → List Event → Burst → ℕ → List Event → Type 0
-BytesAt s store sent before q room later =
-    FarSide sent (start s store) (before ++ call (read q room) ∷ later)
+abbrev pub Bytes : Type 0
+Bytes =
+    (s : Settings) (store : List ℕ) → store_size ≤ length store
+    → (sent : ℕ → List (List ℕ)) (before : List Event) (q : Burst) (room : ℕ) (later : List Event)
+    → FarSide sent (start s store) (before ++ call (read q room) ∷ later)
     → let h = run (start s store) before in
     read_refusal h.bridge q room ≡ 0
     → let k = free_slot h.bridge in
@@ -75,12 +77,6 @@ BytesAt s store sent before q room later =
     → AnsweredOkay k x
     → (looked x.bridge x.store k ≡ sent_for sent (requests (start s store) before) h.bridge q)
     × (length (looked x.bridge x.store k) ≡ length_of q)
-
-abbrev pub Bytes : Type 0
-Bytes =
-    (s : Settings) (store : List ℕ) → store_size ≤ length store
-    → (sent : ℕ → List (List ℕ)) (before : List Event) (q : Burst) (room : ℕ) (later : List Event)
-    → BytesAt s store sent before q room later
 
 -- ---- the second claim: answered by the T-th tick
 
@@ -95,29 +91,23 @@ ticks [] = 0
 ticks (e ∷ es) = is_tick e + ticks es
 
 -- whatever the far side does: once the list has T ticks, the read has been answered
-abbrev pub ReadDeadlineAt : Settings → List ℕ → List Event → Burst → ℕ → List Event → Type 0
-ReadDeadlineAt s store before q room later =
-    let h = run (start s store) before in
+abbrev pub ReadDeadline : Type 0
+ReadDeadline =
+    (s : Settings) (store : List ℕ) → store_size ≤ length store
+    → (before : List Event) (q : Burst) (room : ℕ) (later : List Event)
+    → let h = run (start s store) before in
     read_refusal h.bridge q room ≡ 0
     → h.bridge.settings.limit ≤ ticks later
     → Until (Answered (free_slot h.bridge)) (free_slot h.bridge) (step h (call (read q room))).after later
 
-abbrev pub ReadDeadline : Type 0
-ReadDeadline =
-    (s : Settings) (store : List ℕ) → store_size ≤ length store
-    → (before : List Event) (q : Burst) (room : ℕ) (later : List Event) → ReadDeadlineAt s store before q room later
-
-abbrev pub ConfigDeadlineAt : Settings → List ℕ → List Event → Access → ℕ → List Event → Type 0
-ConfigDeadlineAt s store before a room rest =
-    let h = run (start s store) before in
-    config_refusal h.bridge a room ≡ 0
-    → h.bridge.settings.limit ≤ ticks rest
-    → Until (Answered 8) 8 (step h (call (config a room))).after rest
-
 abbrev pub ConfigDeadline : Type 0
 ConfigDeadline =
     (s : Settings) (store : List ℕ) → store_size ≤ length store
-    → (before : List Event) (a : Access) (room : ℕ) (rest : List Event) → ConfigDeadlineAt s store before a room rest
+    → (before : List Event) (a : Access) (room : ℕ) (rest : List Event)
+    → let h = run (start s store) before in
+    config_refusal h.bridge a room ≡ 0
+    → h.bridge.settings.limit ≤ ticks rest
+    → Until (Answered 8) 8 (step h (call (config a room))).after rest
 
 abbrev pub is_down : Event → Bool
 is_down (call c) = false
@@ -150,9 +140,11 @@ good_bytes requester [] = 0
 good_bytes requester (s ∷ l) = good_by requester (completion_of s) + good_bytes requester l
 
 -- 'OKAY if good completions for all its bytes came before that and any drop'
-abbrev pub ReadOkayAt : Settings → List ℕ → (ℕ → List (List ℕ)) → List Event → Burst → ℕ → List Event → Type 0
-ReadOkayAt s store sent before q room during =
-    FarSide sent (start s store) (before ++ call (read q room) ∷ during)
+abbrev pub ReadOkay : Type 0
+ReadOkay =
+    (s : Settings) (store : List ℕ) → store_size ≤ length store
+    → (sent : ℕ → List (List ℕ)) (before : List Event) (q : Burst) (room : ℕ) (during : List Event)
+    → FarSide sent (start s store) (before ++ call (read q room) ∷ during)
     → let h = run (start s store) before in
     read_refusal h.bridge q room ≡ 0
     → ticks during < h.bridge.settings.limit
@@ -161,12 +153,6 @@ ReadOkayAt s store sent before q room during =
     → good_bytes h.bridge.settings.requester (paired (requests (start s store) before + j) during)
     ≡ (piece_of h.bridge.settings.reads q j).length)
     → Until (AnsweredOkay (free_slot h.bridge)) (free_slot h.bridge) (step h (call (read q room))).after during
-
-abbrev pub ReadOkay : Type 0
-ReadOkay =
-    (s : Settings) (store : List ℕ) → store_size ≤ length store
-    → (sent : ℕ → List (List ℕ)) (before : List Event) (q : Burst) (room : ℕ) (during : List Event)
-    → ReadOkayAt s store sent before q room during
 
 -- a good completion for a configuration access
 abbrev pub is_good_word : ℕ → Bool → CompletionRead → Bool
@@ -180,9 +166,11 @@ any_good_word requester writes [] = false
 any_good_word requester writes (s ∷ l) =
     cond (is_good_word requester writes (completion_of s)) true (any_good_word requester writes l)
 
-abbrev pub ConfigOkayAt : Settings → List ℕ → (ℕ → List (List ℕ)) → List Event → Access → ℕ → List Event → Type 0
-ConfigOkayAt s store sent before a room during =
-    FarSide sent (start s store) (before ++ call (config a room) ∷ during)
+abbrev pub ConfigOkay : Type 0
+ConfigOkay =
+    (s : Settings) (store : List ℕ) → store_size ≤ length store
+    → (sent : ℕ → List (List ℕ)) (before : List Event) (a : Access) (room : ℕ) (during : List Event)
+    → FarSide sent (start s store) (before ++ call (config a room) ∷ during)
     → let h = run (start s store) before in
     config_refusal h.bridge a room ≡ 0
     → goes_out (route_of h.bridge a) ≡ true
@@ -191,24 +179,15 @@ ConfigOkayAt s store sent before a room during =
     → any_good_word h.bridge.settings.requester a.write (paired (requests (start s store) before) during) ≡ true
     → Until (AnsweredOkay 8) 8 (step h (call (config a room))).after during
 
-abbrev pub ConfigOkay : Type 0
-ConfigOkay =
-    (s : Settings) (store : List ℕ) → store_size ≤ length store
-    → (sent : ℕ → List (List ℕ)) (before : List Event) (a : Access) (room : ℕ) (during : List Event)
-    → ConfigOkayAt s store sent before a room during
-
 -- an access that does not go out waits for no completion: it is answered OKAY at once
-abbrev pub LocalOkayAt : Settings → List ℕ → List Event → Access → ℕ → Type 0
-LocalOkayAt s store before a room =
-    let h = run (start s store) before in
-    config_refusal h.bridge a room ≡ 0
-    → goes_out (route_of h.bridge a) ≡ false
-    → AnsweredOkay 8 (step h (call (config a room))).after
-
 abbrev pub LocalOkay : Type 0
 LocalOkay =
     (s : Settings) (store : List ℕ) → store_size ≤ length store
-    → (before : List Event) (a : Access) (room : ℕ) → LocalOkayAt s store before a room
+    → (before : List Event) (a : Access) (room : ℕ)
+    → let h = run (start s store) before in
+    config_refusal h.bridge a room ≡ 0
+    → goes_out (route_of h.bridge a) ≡ false
+    → AnsweredOkay 8 (step h (call (config a room))).after
 
 -- ---- the third claim: two bridges alike
 
@@ -248,15 +227,12 @@ seen_apart x =
 -- the same number, response, slot, bytes sent, data word and look's bytes, and equal registers after, event by event; session
 -- counters may differ, and with them the session numbers. There is no further answer: the interrupt line is a function of the
 -- registers, and `take_number` gives the look's number
-abbrev pub AlikeAt : Held → Held → List Event → Type 0
-AlikeAt x y later = map seen_apart (seen x later) ≡ map seen_apart (seen y later)
-
 abbrev pub Alike : Type 0
 Alike =
     (x y : Held) → Left x → Left y
     → x.bridge.settings ≡ y.bridge.settings
     → registers_of x.bridge ≡ registers_of y.bridge
-    → (later : List Event) → AlikeAt x y later
+    → (later : List Event) → map seen_apart (seen x later) ≡ map seen_apart (seen y later)
 
 -- ---- DEMAND 3
 
