@@ -5,8 +5,8 @@
 #
 #   crates/trace/wrong.sh [NAME...]    all, or the named ones. Exit status 1: something is not as it must be.
 #
-# A copy is a repository of its own, whose checks begin with what earlier ones on this machine kept of the same crates, so that
-# the lower ones, whole in it, are mostly not proved again. The logs stay in crates/trace/out/wrong/ until rt ci runs.
+# A copy is a repository of its own, whose checks begin with what earlier ones kept of the same crates, so that the lower ones,
+# whole in it, are mostly not proved again. The logs stay in crates/trace/out/wrong/ until rt ci runs.
 set -euo pipefail
 cd "$(dirname "$0")/../.."
 jobs=${WRONG_JOBS:-2}
