@@ -12,7 +12,7 @@ use Rattle.tlp.specs.Bytes.{flag}
 use Rattle.records.specs.declared.Fault.TheVariants.{Count}
 use Rattle.records.specs.Events.{Captured, read, write, config_read, config_write, completion, link, tick, take, kind_of, values_of, plain_of, burst_values, burst_of, event_of}
 use Rattle.records.specs.Writing.{some_beats, fits_kind, holds, record_of, end_record}
-use Rattle.records.specs.Reading.{bad, end, event, next}
+use Rattle.records.specs.Reading.{bad, end, next}
 use Rattle.record_laws.specs.Codec.{ReadsBack, EndsReadBack}
 use Rattle.record_laws.proofs.Records.{whole_there, record_there}
 

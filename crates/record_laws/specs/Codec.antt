@@ -1,16 +1,15 @@
 -- Records written and read, both ways (02, A5; readings C5, C6 and C7).
-use Rattle.std.specs.Prelude.{ℕ, ◌+◌, ◌*◌, ◌/◌, ◌%◌, ◌^◌, ◌≤◌, ◌<◌, ◌≡◌, Bool, true, false, length, take, drop}
+use Rattle.std.specs.Prelude.{ℕ, ◌+◌, ◌*◌, ◌/◌, ◌%◌, ◌^◌, ◌<◌, ◌≡◌, true, length, take}
 use mathlib.Core.List.{List, [], ◌∷◌, ◌++◌, flat_map}
 use Rattle.tlp.specs.Bytes.{bytes, number}
 use Rattle.tlp.specs.Laws.{Bytes}
-use Rattle.records.specs.declared.Fault.{Fault}
 use Rattle.records.specs.declared.Fault.TheVariants.{Count}
 use Rattle.records.specs.Events.{Captured, config_read, read, write, config_write, completion, link, tick}
 use Rattle.records.specs.Events as events
 use Rattle.records.specs.Writing as writing
 use Rattle.records.specs.Writing.{Item, holds, record_of, end_record, write_refusal}
-use Rattle.records.specs.Reading.{Next, bad, end, event, next}
-use Rattle.records.specs.File.{Verdict, ended, cut, File, file}
+use Rattle.records.specs.Reading.{bad, end, event, next}
+use Rattle.records.specs.File.{ended, cut, file}
 
 -- ---- C5: written, then read
 

@@ -12,7 +12,7 @@ use lib.Dec.{eqb}
 use lib.ListN.{length, take, drop}
 use Rattle.records.specs.Events.{Captured}
 use Rattle.records.specs.Stream.{is_reading, Pushed, push, Fed, listed, feed}
-use Rattle.replay.specs.Events.{Stage, played, played_all}
+use Rattle.replay.specs.Events.{Stage, played_all}
 use Rattle.replay.specs.Play.{Playing, Played, nothing, more, counts, staged, on_byte, play}
 use Rattle.replay_laws.specs.Play.{Replays, ReplayIsRun, AllowancesAdd, NothingAllowed}
 use Rattle.replay_laws.proofs.Cuts.{feed_nothing}

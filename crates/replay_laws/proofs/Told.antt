@@ -1,14 +1,14 @@
 -- What was told before a call changes nothing in it.
 use Prim.Native.Nat.{ℕ, ◌-◌}
 use mathlib.Core.Path.{◌≡◌, refl, sym, ap, ◌∙◌}
-use mathlib.Core.List.{List, [], ◌∷◌, ◌++◌, append-nil, append_assoc}
+use mathlib.Core.List.{List, [], ◌∷◌, append-nil, append_assoc}
 use mathlib.Core.Option.{Option, none, some}
 use mathlib.Core.Bool.{Bool, true, false, cond}
 use Rattle.records.specs.Events as records
 use Rattle.records.specs.Events.{Captured, read, write, config_read, config_write, completion, link, tick}
 use Rattle.records.specs.Stream.{Reader, push}
 use Rattle.replay.specs.Events.{Told, Stage, stage, played}
-use Rattle.replay.specs.Play.{playing, Played, nothing, more, counts, staged, on_byte, halts, play}
+use Rattle.replay.specs.Play.{playing, Played, nothing, more, counts, staged, halts, play}
 use Rattle.replay_laws.specs.Play.{told_first, played_after, ToldBefore}
 
 -- ---- one event

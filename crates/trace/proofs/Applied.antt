@@ -5,7 +5,7 @@ use mathlib.Core.List.{[], ◌∷◌, ◌++◌, flat_map}
 use mathlib.Core.Bool.{true, false}
 use native.Mathlib.Nat.{le_of_suc-le-suc}
 use native.Mathlib.Omega.{arith}
-use lib.ListN.{length, replicate}
+use lib.ListN.{replicate}
 use borrow.Author.Tests.{leb-true, ltb-true}
 use Rattle.bits.specs.Bits.{bit, is_set, from_bits, set_bit, clear_bit}
 use Rattle.tags.specs.Tags.{free_from}

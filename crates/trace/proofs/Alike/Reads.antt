@@ -8,7 +8,6 @@ use native.Mathlib.Omega.{arith}
 use native.Mathlib.Nat.{div-mul-le_self, lt-div-mul-add, suc-mul}
 use native.Mathlib.Numerals.{add-one}
 use native.Mathlib.Decide.{ℕ_discrete, dec_lt}
-use lib.ListN.{length}
 use lib.Seq.{ext_get_or}
 use Rattle.tags.specs.Tags.{lowest, available}
 use Rattle.tags.proofs.Tags.{lowest_is}
