@@ -1,11 +1,14 @@
 -- One turn of each walk, and tests that come to the same.
-use Rattle.std.proofs.Common.{◌≡◌, ℕ, zero, suc, ◌+◌, ◌-◌, ◌*◌, ◌%◌, ◌^◌, ◌<◌, ◌≤◌, Bool, true, false, ◌&&◌, ◌||◌, eqb, leb, List, get_or, sym, refl, ap, ◌∙◌, one-mul, add-one, arith, lit<, pow_pos, shl_exact, eq-eqb, ne_eqb, eqb-true, le-leb, leb-true}
+use Rattle.std.proofs.Common.{◌≡◌, ℕ, zero, suc, ◌+◌, ◌-◌, ◌*◌, ◌%◌, ◌^◌, ◌<◌, ◌≤◌, Bool, true, false, ◌&&◌, ◌||◌, eqb, leb, List, get_or, sym, refl, ap, ◌∙◌, one-mul, add-one, arith, lit<, pow_pos, shl_exact, eq-eqb, ne_eqb, eqb-true, le-leb, leb-true, le-ltb}
+use borrow.Author.Tests.{lt-leb}
 use mathlib.Core.Bool.{false≢true}
 use native.Mathlib.Decide.{ℕ_discrete}
 use Rattle.address.specs.declared.AxiAddress.{AxiAddress}
 use Rattle.address.specs.declared.Found.TheVariants.{At, Nothing}
 use Rattle.address.specs.Windows.{holds, first_from}
-use Rattle.address.specs.Settings.{power_among, each_from}
+use Rattle.address.specs.declared.Windows.{Windows}
+use Rattle.address.specs.declared.Settings.{Settings}
+use Rattle.address.specs.Settings.{power_among, each_from, windows_right, settings_right, settings_number}
 
 -- two tests, each of which holds where the other does
 pub same_test : (x y : Bool) → (x ≡ true → y ≡ true) → (y ≡ true → x ≡ true) → x ≡ y
@@ -107,3 +110,21 @@ power_found low (suc n) x e = power_split low n x (eqb x (2 ^ low)) refl (power_
 
 pub power_pos : (low n x : ℕ) → power_among low n x ≡ true → 0 < x
 power_pos low n x e = let p = power_found low n x e in rw p.is (pow_pos p.exponent)
+
+-- one window more than there is room for
+pub seven_windows : (w : Windows) → 6 < w.count → windows_right w ≡ false
+unfolding windows_right
+seven_windows w h = rw (le-leb 1 w.count (omega arith), lt-leb w.count 6 h)
+
+-- a time limit and a requester ID past their ranges, whatever the other settings
+and_false : (x : Bool) → x && false ≡ false
+and_false true = refl
+and_false false = refl
+
+pub late_limit : (s : Settings) → 65535 < s.limit → settings_number s ≡ 1
+unfolding settings_number settings_right
+late_limit s h = rw (le-leb 1 s.limit (omega arith), lt-leb s.limit 65535 h) (simp and_false)
+
+pub wide_requester : (s : Settings) → 65535 < s.requester → settings_number s ≡ 1
+unfolding settings_number settings_right
+wide_requester s h = rw (le-ltb s.requester (2 ^ 16) (omega arith)) (simp and_false)

@@ -179,6 +179,7 @@ fn all_apart(n: usize, base: &[u64; 6], size: &[u64; 6]) -> bool
 }
 
 // Whether the windows keep their rules.
+#[tactic(auto, using(crate::proofs::Steps::seven_windows))]
 pub fn windows_right(w: Windows) -> bool
     ensures { result ≡ windows_right w }
 {
@@ -199,6 +200,7 @@ pub fn windows_right(w: Windows) -> bool
 }
 
 // 0 where every setting keeps its rule, else 1.
+#[tactic(auto, using(crate::proofs::Steps::late_limit, crate::proofs::Steps::wide_requester))]
 pub fn settings_number(s: Settings) -> u32
     ensures { result ≡ settings_number s }
 {

@@ -1,4 +1,4 @@
-use Rattle.std.proofs.Common.{◌^◌, sym, ◌∙◌, arith, le-ltb, lt-ltb, le-leb}
+use Rattle.std.proofs.Common.{◌^◌, sym, ◌∙◌, arith, lt-ltb, le-leb}
 use borrow.Author.Tests.{lt-leb}
 use Rattle.address.specs.Settings.{settings_right, settings_number}
 use Rattle.address.proofs.settings_number.Goals as goal
@@ -27,14 +27,6 @@ pub returns-then-s-lt1-2 : goal.returns-then-s-lt1-2
 unfolding settings_number settings_right
 returns-then-s-lt1-2 c = rw (sym c.windows_right.ensures ∙ c.if-not-windows_right.false, le-leb 1 _ c.if-s-lt1.false, le-leb _ 8 c.if-s-gt8.false, sym c.power_of_two.ensures ∙ c.if-not-power_of_two.false, sym c.power_of_two-2.ensures ∙ c.if-not-power_of_two-2.false, lt-leb 1 _ c.if-s-lt1-2.true)
 
-pub returns-then-s-gt65535 : goal.returns-then-s-gt65535
-unfolding settings_number settings_right
-returns-then-s-gt65535 c = rw (sym c.windows_right.ensures ∙ c.if-not-windows_right.false, le-leb 1 _ c.if-s-lt1.false, le-leb _ 8 c.if-s-gt8.false, sym c.power_of_two.ensures ∙ c.if-not-power_of_two.false, sym c.power_of_two-2.ensures ∙ c.if-not-power_of_two-2.false, le-leb 1 _ c.if-s-lt1-2.false, lt-leb _ 65535 c.if-s-gt65535.true)
-
-pub returns-then-s-gt65535-2 : goal.returns-then-s-gt65535-2
-unfolding settings_number settings_right
-returns-then-s-gt65535-2 c = rw (sym c.windows_right.ensures ∙ c.if-not-windows_right.false, le-leb 1 _ c.if-s-lt1.false, le-leb _ 8 c.if-s-gt8.false, sym c.power_of_two.ensures ∙ c.if-not-power_of_two.false, sym c.power_of_two-2.ensures ∙ c.if-not-power_of_two-2.false, le-leb 1 _ c.if-s-lt1-2.false, le-leb _ 65535 c.if-s-gt65535.false, le-ltb _ (2 ^ 16) c.if-s-gt65535-2.true)
-
 pub returns : goal.returns
 unfolding settings_number settings_right
-returns c = rw (sym c.windows_right.ensures ∙ c.if-not-windows_right.false, le-leb 1 _ c.if-s-lt1.false, le-leb _ 8 c.if-s-gt8.false, sym c.power_of_two.ensures ∙ c.if-not-power_of_two.false, sym c.power_of_two-2.ensures ∙ c.if-not-power_of_two-2.false, le-leb 1 _ c.if-s-lt1-2.false, le-leb _ 65535 c.if-s-gt65535.false, lt-ltb c.args.s.requester (2 ^ 16) (omega (arith, c.if-s-gt65535-2.false)))
+returns c = rw (sym c.windows_right.ensures ∙ c.if-not-windows_right.false, le-leb 1 _ c.if-s-lt1.false, le-leb _ 8 c.if-s-gt8.false, sym c.power_of_two.ensures ∙ c.if-not-power_of_two.false, sym c.power_of_two-2.ensures ∙ c.if-not-power_of_two-2.false, le-leb 1 _ c.if-s-lt1-2.false, le-leb c.args.s.limit 65535 (omega arith), lt-ltb c.args.s.requester (2 ^ 16) (omega arith))
