@@ -36,6 +36,7 @@ fn end_from(start: u64, size: u32, beats: u32) -> u64
 }
 
 // 0 for a burst that is accepted, else 3.
+#[tactic(auto, using(crate::proofs::Covers::end_in_page), unfolding(crate::specs::Bursts::burst_number, crate::specs::Bursts::burst_right))]
 pub fn burst_number(b: Burst) -> u32
     ensures { result ≡ burst_number b }
 {
@@ -155,6 +156,7 @@ pub fn first_enables(a: u64, n: u32) -> u32
 }
 
 // The byte enables of the last word, 0 where it is the first.
+#[tactic(auto, unfolding(crate::specs::Words::word_count, crate::specs::Words::last_enables))]
 pub fn last_enables(a: u64, n: u32) -> u32
     ensures { result ≡ last_enables a n }
 {

@@ -70,6 +70,7 @@ fn out_of_range(n: u32, offset: u64) -> bool
 }
 
 // Where an access at this offset goes, with n bus bits.
+#[tactic(auto, unfolding(crate::specs::Route::route))]
 pub fn route_of(n: u32, r: Registers, offset: u64) -> Route
     ensures { (cells : List ℕ) → result ≡ route n (registers_from r cells) offset }
 {
