@@ -65,10 +65,11 @@ reading_phase Reading e = refl
 reading_phase Ended e = cc
 reading_phase (Bad f) e = cc
 
--- a reader that holds nothing finds a whole record in the input: all of it is there. In two, as the search takes them
+-- what `next` found, as an event
 found_event : (n : ℕ) (input : List ℕ) (f : Found) (e : Event) (size : ℕ) → f ≡ Whole e size → meant input f ≡ next n input → next n input ≡ event (captured e (take size input)) size
 found_event n input f e size w m = sym m ∙ ap (meant input) w
 
+-- a reader that holds nothing finds a whole record in the input, all of it. In two lemmas, as the search takes them
 pub in_place_size : (r : code.Reader) (input : List ℕ) (f : Found) (e : Event) (size : ℕ) → f ≡ Whole e size → meant input f ≡ next r.events input → size ≤ length input
 in_place_size r input f e size w m =
     (whole_is_there r.events input (captured e (take size input)) size (found_event r.events input f e size w m)).1
