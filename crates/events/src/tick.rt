@@ -77,6 +77,7 @@ fn owed(missing: &[u32; TAGS]) -> u64
 }
 
 // A tick, where the store is long enough.
+#[tactic(auto, using(crate::proofs::Quiet::nothing_open))]
 fn step_in(
     limit: u32,
     c: Core,

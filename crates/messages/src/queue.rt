@@ -69,6 +69,7 @@ fn put(cells: [u32; DEPTH], at: usize, entry: u32) -> [u32; DEPTH]
 }
 
 // An entry is the newest; a full queue stays as it is.
+#[tactic(auto, using(crate::proofs::Cells::push_full, crate::proofs::Cells::push_some))]
 pub fn push(r: Ring, cells: &mut [u32; DEPTH], entry: u32) -> Ring
     ensures queue { queue_of result cells.new ≡ push (queue_of r cells.old) entry }
     ensures cells { cells.new ≡ cells_after r cells.old entry }

@@ -65,15 +65,21 @@ reading_phase Reading e = refl
 reading_phase Ended e = cc
 reading_phase (Bad f) e = cc
 
--- a reader that holds nothing finds a whole record in the input
-pub in_place : (r : code.Reader) (buffer input : List ℕ) (f : Found) (e : Event) (size : ℕ) → r.have ≡ 0 → is_reading r.phase ≡ true → f ≡ Whole e size → meant input f ≡ next r.events input → Steps (reader_of r buffer) (take size input) (reader_of (moved_on r size) buffer) (some (captured e (take size input))) × (size ≤ length input)
-in_place r buffer input f e size h p w m =
-    let k : next r.events input ≡ event (captured e (take size input)) size = sym m ∙ ap (meant input) w in
+-- what `next` found, as an event
+found_event : (n : ℕ) (input : List ℕ) (f : Found) (e : Event) (size : ℕ) → f ≡ Whole e size → meant input f ≡ next n input → next n input ≡ event (captured e (take size input)) size
+found_event n input f e size w m = sym m ∙ ap (meant input) w
+
+-- a reader that holds nothing finds a whole record in the input, all of it. In two lemmas, as the search takes them
+pub in_place_size : (r : code.Reader) (input : List ℕ) (f : Found) (e : Event) (size : ℕ) → f ≡ Whole e size → meant input f ≡ next r.events input → size ≤ length input
+in_place_size r input f e size w m =
+    (whole_is_there r.events input (captured e (take size input)) size (found_event r.events input f e size w m)).1
+
+pub in_place_steps : (r q : code.Reader) (buffer input : List ℕ) (f : Found) (e : Event) (size : ℕ) → r.have ≡ 0 → is_reading r.phase ≡ true → f ≡ Whole e size → meant input f ≡ next r.events input → q ≡ moved_on r size → Steps (reader_of r buffer) (take size input) (reader_of q buffer) (some (captured e (take size input)))
+in_place_steps r q buffer input f e size h p w m k =
     let t : reader r.at r.events [] Reading ≡ reader_of r buffer =
     ap (λ (x : Phase). reader r.at r.events [] x) (sym (reading_phase r.phase p))
     ∙ ap (λ (x : ℕ). reader r.at r.events (take (min x 4114) buffer) r.phase) (sym h)
-    in (
-      subst (λ (x : Reader). Steps x (take size input) (reader_of (moved_on r size) buffer) (some (captured e (take size input)))) t
-          (whole_steps r.at r.events input (captured e (take size input)) size k),
-      (whole_is_there r.events input (captured e (take size input)) size k).1,
-    )
+    in
+    rw k
+    (subst (λ (x : Reader). Steps x (take size input) (reader_of (moved_on r size) buffer) (some (captured e (take size input)))) t
+    (whole_steps r.at r.events input (captured e (take size input)) size (found_event r.events input f e size w m)))

@@ -150,6 +150,7 @@ fn push(r: Reader, held: &mut [u8], b: u8) -> Came
 }
 
 // A step on: an event's record that is all in the input, or else one byte.
+#[tactic(auto, using(crate::proofs::Stepping::in_place_steps, crate::proofs::Stepping::in_place_size, crate::proofs::Stepping::byte_step))]
 pub fn advance(r: Reader, held: &mut [u8], input: &[u8]) -> Came
     requires { (most_held + 1 ≤ length held.old) × ((is_reading r.phase ≡ true) × (0 < length input.now)) }
     ensures { Steps (reader_of r held.old) (take result.used input.now) (reader_of result.reader held.new) (event_of (take result.used input.now) held.new result.got) × ((result.number ≡ 0) × (result.used ≤ length input.now)) }
