@@ -45,6 +45,7 @@ pub fn fail_in(c: Core, slots: &mut [u32; SLOT_CELLS], k: usize, place: u32, why
 }
 
 // The read in slot k is finished, and its bytes are zero unless it is OKAY.
+#[tactic(auto, using(crate::proofs::Finishing::okay_finished, crate::proofs::Finishing::cause_cell, crate::proofs::Finishing::stored))]
 pub fn finish_in(slots: &mut [u32; SLOT_CELLS], store: &mut [u8], k: usize)
     requires { (store_size ≤ length store.old) × (k < slot_count) }
     ensures { (s : Fixed) (d : Core) (m t : List ℕ) → held_of s d m t slots.new store.new ≡ finished k (held_of s d m t slots.old store.old) }
