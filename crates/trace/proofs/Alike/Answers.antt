@@ -29,32 +29,32 @@ use Rattle.trace.proofs.Alike.Reads.{states_same, slot_same}
 -- ---- refusals of requests, and bytes sent
 
 -- an open configuration read
-busy-same : (c d : ConfigSlot) → ConfigsLike c d → eqb c.state slot_open && not c.write ≡ eqb d.state slot_open && not d.write
-busy-same c d (equal e) = ap (λ (z : ConfigSlot). eqb z.state slot_open && not z.write) e
-busy-same c d (unused e f) = rw (e, f)
+busy_same : (c d : ConfigSlot) → ConfigsLike c d → eqb c.state slot_open && not c.write ≡ eqb d.state slot_open && not d.write
+busy_same c d (equal e) = ap (λ (z : ConfigSlot). eqb z.state slot_open && not z.write) e
+busy_same c d (unused e f) = rw (e, f)
 
 module _ {x y : Bridge} (p : Twin x y) where
   pub read_same : (q : Burst) (room : ℕ) → read_refusal x q room ≡ read_refusal y q room
   unfolding read_refusal
-  read_same q room = rw (p.settings, p.core.registers, p.core.free, busy-same x.core.config y.core.config p.core.config, slot_same p)
+  read_same q room = rw (p.settings, p.core.registers, p.core.free, busy_same x.core.config y.core.config p.core.config, slot_same p)
 
   pub write_same : (q : Burst) (len room : ℕ) → write_refusal x q len room ≡ write_refusal y q len room
   unfolding write_refusal
   write_same q len room = rw (p.settings, p.core.registers)
 
-  pub route-same : (a : Access) → route_of x a ≡ route_of y a
-  route-same a = rw (p.settings, p.core.registers)
+  pub route_same : (a : Access) → route_of x a ≡ route_of y a
+  route_same a = rw (p.settings, p.core.registers)
 
-  pub config-same : (a : Access) (room : ℕ) → config_refusal x a room ≡ config_refusal y a room
+  pub config_same : (a : Access) (room : ℕ) → config_refusal x a room ≡ config_refusal y a room
   unfolding config_number
-  config-same a room = rw (route-same a, p.core.registers, p.core.free, like_number p.core.config)
+  config_same a room = rw (route_same a, p.core.registers, p.core.free, like_number p.core.config)
 
   pub config_bytes_lem : (a : Access) → config_bytes x a ≡ config_bytes y a
-  config_bytes_lem a = rw (route-same a, p.settings, p.core.free)
+  config_bytes_lem a = rw (route_same a, p.settings, p.core.free)
 
   -- the tags that a read takes are those that are free
-  pub read-bytes : (q : Burst) (room : ℕ) → settings_number x.settings ≡ 0 → read_refusal x q room ≡ 0 → read_bytes x q ≡ read_bytes y q
-  read-bytes q room r e =
+  pub read_bytes_lem : (q : Burst) (room : ℕ) → settings_number x.settings ≡ 0 → read_refusal x q room ≡ 0 → read_bytes x q ≡ read_bytes y q
+  read_bytes_lem q room r e =
       let a = accepted_read_sends x q room r e in
       let b = accepted_read_sends y q room (rw p.settings at r) (sym (read_same q room) ∙ e) in
       rw (a.sent, b.sent, p.settings, p.core.free)
@@ -101,9 +101,9 @@ module _ {h g : Held} (p : Pair h g) (k : ℕ) where
         cond (ltb k slot_count) (taken (response_of (failure_of b k)) 0 (figures_of b k))
         (taken (response_of b.core.config.response) b.core.config.word b.core.config.figures)
 
-    pub given-same : answer_apart (given h.bridge) ≡ answer_apart (given g.bridge)
+    pub given_same : answer_apart (given h.bridge) ≡ answer_apart (given g.bridge)
     unfolding taken
-    given-same = by placed
+    given_same = by placed
       where
         by : (k < slot_count) ⊎ (k ≡ config_slot) → answer_apart (given h.bridge) ≡ answer_apart (given g.bridge)
         by (inl l) = rw (lt-ltb k slot_count l) (ap (λ (s : Slot). answer_apart (taken (response_of s.cause) 0 no_figures)) (row_same l))
@@ -111,8 +111,8 @@ module _ {h g : Held} (p : Pair h g) (k : ℕ) where
             let f : h.bridge.core.config.state ≡ 2 = sym (state_config h.bridge) ∙ (ap (state_of h.bridge) (sym w) ∙ found) in
             rw w (ap (λ (c : ConfigSlot). answer_apart (taken (response_of c.response) c.word c.figures)) (like_equal p.twin.core.config (λ n. omega (arith, f))))
 
-  pub looked-same : looked h.bridge h.store k ≡ looked g.bridge g.store k
-  looked-same = by (ℕ_discrete (take_refusal h.bridge (length h.store) k) 0)
+  pub looked_same : looked h.bridge h.store k ≡ looked g.bridge g.store k
+  looked_same = by (ℕ_discrete (take_refusal h.bridge (length h.store) k) 0)
     where
       part : take_refusal h.bridge (length h.store) k ≡ 0 → (k < slot_count) ⊎ (k ≡ config_slot) → looked h.bridge h.store k ≡ looked g.bridge g.store k
       part e (inl l) = slot_part e l

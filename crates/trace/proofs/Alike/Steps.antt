@@ -28,7 +28,7 @@ use Rattle.trace.proofs.Alike.Times.{ticked_pair}
 use Rattle.trace.proofs.Alike.Link.{linked_pair}
 use Rattle.trace.proofs.Alike.Completions.{complete_same, completed_pair}
 use Rattle.trace.proofs.Alike.Reads.{slot_same, read_pair, routed_pair, freed_pair}
-use Rattle.trace.proofs.Alike.Answers.{read_same, write_same, route-same, config-same, config_bytes_lem, read-bytes, take_same, given-same, looked-same}
+use Rattle.trace.proofs.Alike.Answers.{read_same, write_same, route_same, config_same, config_bytes_lem, read_bytes_lem, take_same, given_same, looked_same}
 
 pub record Next (h g : Held) (e : Event) : Type 0 where
   pub answer : answer_apart (step h e).out.answer ≡ answer_apart (step g e).out.answer
@@ -72,23 +72,23 @@ module _ {h g : Held} (v : Sound h) (p : Pair h g) where
       by_number _ _ _ _ _ _ (read_same p.twin q room)
       (λ e.
       let k = slot_same p.twin in
-      let s = read-bytes p.twin q room v.right e in
+      let s = read_bytes_lem p.twin q room v.right e in
       record { answer = cc; sent = s; pair = read_pair q room v p e })
   call_both (write q bytes room) =
       let s : write_bytes h.bridge.settings q bytes room ≡ write_bytes g.bridge.settings q bytes room = ap (λ (s : Settings). write_bytes s q bytes room) p.twin.settings in
       by_number _ _ _ _ _ _ (write_same p.twin q (length bytes) room) (λ e. record { answer = cc; sent = s; pair = p })
   call_both (config a room) =
       let s = config_bytes_lem p.twin a in
-      by_number _ _ _ _ _ _ (config-same p.twin a room)
+      by_number _ _ _ _ _ _ (config_same p.twin a room)
       (λ e. record {
         answer = cc;
         sent = s;
         pair = subst (λ r. Pair (held (config_bridge h.bridge a (route_of h.bridge a)) h.store) (held (config_bridge g.bridge a r) g.store))
-            (route-same p.twin a) (config_pair a room e (route_of h.bridge a) refl);
+            (route_same p.twin a) (config_pair a room e (route_of h.bridge a) refl);
       })
   call_both (look k) = record { answer = ap (λ (n : ℕ). answer_apart (plain n)) (take_same p k); sent = refl; pair = p }
   call_both (release k) =
-      let b = by_number _ _ _ _ [] [] (take_same p k) (λ e. record { answer = given-same p k e; sent = refl; pair = freed_pair k p }) in
+      let b = by_number _ _ _ _ [] [] (take_same p k) (λ e. record { answer = given_same p k e; sent = refl; pair = freed_pair k p }) in
       record { answer = b.answer; sent = refl; pair = b.pair }
   call_both (message m) =
       let b =
@@ -104,7 +104,7 @@ module _ {h g : Held} (v : Sound h) (p : Pair h g) where
   part_same (read q room) = refl
   part_same (write q bytes room) = refl
   part_same (config a room) = refl
-  part_same (look k) = looked-same p k
+  part_same (look k) = looked_same p k
   part_same (release k) = refl
   part_same (message m) = refl
 
