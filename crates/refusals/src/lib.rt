@@ -1,12 +1,13 @@
-// 01's refusal table: the responses, and the numbers that the code names.
+// 01's refusal table: why a call is refused, and what it reports to the AXI side.
 #![tactic(auto)]
 
 ghost use Rattle.std.specs.Prelude.{◌≡◌};
 ghost use Rattle.refusals.specs.Table.{refusal_response};
+ghost use Rattle.refusals.specs.Refusals.{number_of};
 ghost use Rattle.refusals.specs.Responses.{code_of};
 
 // What a call reports to the AXI side.
-#[derive(Clone, Copy)]
+#[derive(Clone, Copy, Debug, PartialEq, Eq)]
 pub enum Response {
     Nothing,
     Okay,
@@ -15,6 +16,87 @@ pub enum Response {
     Wait,
 }
 
+// Why a call is refused: the rows of the table, in the order of their numbers.
+#[derive(Clone, Copy, Debug, PartialEq, Eq)]
+pub enum Refusal {
+    Setting,
+    NoWindow,
+    WrongBurst,
+    LinkDown,
+    ConfigBusy,
+    SlotsUsed,
+    FewTags,
+    TooShort,
+    OffsetOver,
+    NotRouted,
+    WrongDevice,
+    Malformed,
+    NotExpected,
+    NotFinished,
+    WrongData,
+}
+
+impl Response {
+    // Its number: AXI's coding where the bus has one.
+    pub fn code(self) -> u32
+        ensures { result ≡ code_of self }
+    {
+        match self {
+            Response::Okay => 0,
+            Response::Slverr => 2,
+            Response::Decerr => 3,
+            Response::Nothing => 4,
+            Response::Wait => 5,
+        }
+    }
+}
+
+impl Refusal {
+    // Its number in the table.
+    pub fn number(self) -> u32
+        ensures { result ≡ number_of self }
+    {
+        match self {
+            Refusal::Setting => 1,
+            Refusal::NoWindow => 2,
+            Refusal::WrongBurst => 3,
+            Refusal::LinkDown => 4,
+            Refusal::ConfigBusy => 5,
+            Refusal::SlotsUsed => 6,
+            Refusal::FewTags => 7,
+            Refusal::TooShort => 8,
+            Refusal::OffsetOver => 9,
+            Refusal::NotRouted => 10,
+            Refusal::WrongDevice => 11,
+            Refusal::Malformed => 12,
+            Refusal::NotExpected => 13,
+            Refusal::NotFinished => 14,
+            Refusal::WrongData => 15,
+        }
+    }
+
+    // Its response.
+    pub fn response(self) -> Response
+        ensures { result ≡ refusal_response (number_of self) }
+    {
+        refusal_response(self.number())
+    }
+}
+
+// The response column, for every number: 0 is accepted, and past the table there is no row.
+#[tactic(auto, unfolding(crate::specs::Table::refusal_response))]
+pub fn refusal_response(n: u32) -> Response
+    ensures { result ≡ refusal_response n }
+{
+    match n {
+        2 | 9 => Response::Decerr,
+        3 | 4 | 10 | 11 | 15 => Response::Slverr,
+        5 | 6 | 7 => Response::Wait,
+        _ => Response::Nothing,
+    }
+}
+
+// For callers that still speak in numbers.
 pub const SETTING: u32 = 1;
 
 pub const NO_WINDOW: u32 = 2;
@@ -39,31 +121,8 @@ pub const NOT_FINISHED: u32 = 14;
 
 pub const WRONG_DATA: u32 = 15;
 
-// Its number: AXI's coding where the bus has one.
 pub fn response_code(r: Response) -> u32
     ensures { result ≡ code_of r }
 {
-    match r {
-        Response::Okay => 0,
-        Response::Slverr => 2,
-        Response::Decerr => 3,
-        Response::Nothing => 4,
-        Response::Wait => 5,
-    }
-}
-
-// The response column.
-pub fn refusal_response(n: u32) -> Response
-    ensures { result ≡ refusal_response n }
-{
-    if (n == 2) | (n == 9) {
-        return Response::Decerr;
-    }
-    if (n == 3) | (n == 4) | (n == 10) | (n == 11) | (n == 15) {
-        return Response::Slverr;
-    }
-    if (n == 5) | (n == 6) | (n == 7) {
-        return Response::Wait;
-    }
-    Response::Nothing
+    r.code()
 }
