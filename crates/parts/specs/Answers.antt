@@ -2,13 +2,22 @@
 use Rattle.std.specs.Prelude.{ℕ, cond, ◌==◌}
 use Rattle.parts.specs.Cores.{Core, raised_core}
 pub use Rattle.parts.specs.Cores.{no_figures}
-use Rattle.parts.specs.declared.Answer.{Answer}
 use Rattle.parts.specs.declared.Figures.{Figures}
 use Rattle.verdict.specs.Verdict.{okay, decerr}
 use Rattle.refusals.specs.declared.Response.TheVariants.{Nothing, Okay, Slverr, Decerr}
 use Rattle.refusals.specs.declared.Response.{Response}
 use Rattle.refusals.specs.Table.{Change, keeps, sets, change_of}
 unfoldable pub use Rattle.refusals.specs.Table.{refusal_response}
+
+-- what an event answers: the refusal number, 0 for accepted; the response; the slot; how many bytes were sent; the data word;
+-- and the figures of a kept answer
+pub record Answer : Type 0 where
+  pub number : ℕ
+  pub response : Response
+  pub slot : ℕ
+  pub length : ℕ
+  pub word : ℕ
+  pub figures : Figures
 
 -- the response of AXI's coding
 unfoldable pub response_of : ℕ → Response

@@ -1,20 +1,19 @@
 // The configuration slot: what refuses an access, and what it holds when one is finished.
 ghost use Rattle.std.specs.Prelude.{◌≡◌, ℕ, List, if◌then◌else◌};
-ghost use Rattle.parts.specs.Cores.{with_config, raised_core, free_config};
 ghost use Rattle.common.specs.Decode.{cfg_timeout};
-ghost use Rattle.verdict.specs.Verdict.{slverr};
-ghost use Rattle.parts.specs.Access.{config_done, goes_out, config_number, access_of, local_core, drop_config, config_answer};
-ghost use Rattle.verdict.specs.declared.Verdict.TheVariants.{Failed};
+ghost use Rattle.refusals.specs.Refusals.{number_in};
 ghost use Rattle.ecam.specs.Request.{data_word};
+ghost use Rattle.verdict.specs.declared.Verdict.TheVariants.{Failed};
+ghost use Rattle.verdict.specs.Verdict.{slverr};
+ghost use Rattle.parts.specs.Cores.{with_config, raised_core, free_config, open_config};
+ghost use Rattle.parts.specs.Access.{config_done, goes_out, config_number, access_of, local_core, drop_config, config_answer};
 ghost use Rattle.parts.specs.Code.Struct.{core_from};
 
-use crate::answers::{no_figures, raise_in};
-use crate::cores::figures_now;
-use crate::{AREA_SIZE, ConfigSlot, Core, FINISHED, FREE, OPEN};
+use crate::{AREA_SIZE, ConfigSlot, Core, FINISHED, FREE, Figures, OPEN};
 use common::CFG_TIMEOUT;
 use ecam::Route;
 use messages::queue::DEPTH;
-use refusals::{CONFIG_BUSY, FEW_TAGS, LINK_DOWN, TOO_SHORT};
+use refusals::Refusal;
 use verdict::{Cause, Verdict};
 
 // Whether the request goes out over the link.
@@ -22,166 +21,149 @@ pub fn goes_out(x: Route) -> bool
     ensures { result ≡ goes_out x }
 {
     match x {
-        Route::OutOfRange => false,
-        Route::Local(_) => false,
-        Route::Type0 => true,
-        Route::Type1 => true,
-        Route::NotRouted => false,
-        Route::DeviceNotZero => false,
+        Route::Type0 | Route::Type1 => true,
+        _ => false,
     }
 }
 
-// The refusals in their order: 8, 5, the route's 9, 10 or 11, and of what goes out 4 and 7.
-pub fn config_number(c: Core, x: Route, room: usize) -> u32
-    ensures { (cells : List ℕ) → result ≡ config_number (core_from c cells) x room }
-{
-    if room < AREA_SIZE {
-        return TOO_SHORT;
-    }
-    let number = ecam::number_of(x);
-    let config = c.config;
-    if config.state != FREE {
-        return CONFIG_BUSY;
-    }
-    if number != 0 {
-        return number;
-    }
-    let out = goes_out(x);
-    let registers = c.registers;
-    if out & !registers.link {
-        return LINK_DOWN;
-    }
-    if out & (tags::available(c.free) == 0) {
-        return FEW_TAGS;
-    }
-    0
-}
-
-// A local access, of word w, finishes at once.
-pub fn local_core(
-    c: Core,
-    cells: &[u32; DEPTH],
-    offset: u64,
-    write: bool,
-    strobes: u32,
-    word: u32,
-    w: u32,
-) -> Core
-    ensures { core_from result cells.now ≡ local_core (core_from c cells.now) (access_of offset write strobes word) w }
-{
-    let registers = c.registers;
-    let figures = figures_now(c);
-    let mut d = c;
-    if write {
-        d.registers = ecam::registers::local_write(registers, w, strobes, word);
-        let config = ConfigSlot {
-            state: FINISHED,
-            write: true,
+impl ConfigSlot {
+    // One that is free.
+    pub fn free() -> ConfigSlot
+        ensures { result ≡ free_config }
+    {
+        ConfigSlot {
+            state: FREE,
+            write: false,
             response: 0,
             word: 0,
-            figures: figures,
-        };
-        d.config = config;
-        return d;
+            figures: Figures::none(),
+        }
     }
-    let shown = ecam::registers::local_read(registers, cells, w);
-    let config = ConfigSlot {
-        state: FINISHED,
-        write: false,
-        response: 0,
-        word: shown,
-        figures: figures,
-    };
-    d.config = config;
-    d
-}
 
-// Its finished slot.
-pub fn config_done(c: ConfigSlot, code: u32, word: u32) -> ConfigSlot
-    ensures { result ≡ config_done c code word }
-{
-    let figures = c.figures;
-    ConfigSlot {
-        state: FINISHED,
-        write: c.write,
-        response: code,
-        word: word,
-        figures: figures,
+    // One that waits for a completion.
+    pub fn open(write: bool, figures: Figures) -> ConfigSlot
+        ensures { result ≡ open_config write figures }
+    {
+        ConfigSlot {
+            state: OPEN,
+            write,
+            response: 0,
+            word: 0,
+            figures,
+        }
     }
-}
 
-// The data word: 0 for a write.
-pub fn config_word(write: bool, payload: &[u8]) -> u32
-    ensures { result ≡ (if write then 0 else data_word payload.now) }
-{
-    if write {
-        return 0;
+    // Its access is finished.
+    pub fn done(self, code: u32, word: u32) -> ConfigSlot
+        ensures { result ≡ config_done self code word }
+    {
+        ConfigSlot {
+            state: FINISHED,
+            response: code,
+            word,
+            ..self
+        }
     }
-    ecam::data_word(payload)
-}
 
-// UR, CRS or CA for the configuration access.
-pub fn config_failed(c: ConfigSlot, why: Cause) -> ConfigSlot
-    ensures { (payload : List ℕ) → result ≡ config_answer c payload (Failed why) }
-{
-    match why {
-        Cause::UnsupportedRequest => {
-            if c.write {
-                return config_done(c, 2, 0);
+    // What it holds after UR, CRS or CA.
+    #[tactic(auto, unfolding(crate::specs::Access::config_answer))]
+    fn failed(self, why: Cause) -> ConfigSlot
+        ensures { (payload : List ℕ) → result ≡ config_answer self payload (Failed why) }
+    {
+        match why {
+            Cause::UnsupportedRequest if !self.write => self.done(0, 0xFFFF_FFFF),
+            _ => self.done(2, 0),
+        }
+    }
+
+    // What it holds after a completion. The data word of a write is 0.
+    #[tactic(auto, unfolding(crate::specs::Access::config_answer))]
+    pub fn answer(self, payload: &[u8], v: Verdict) -> ConfigSlot
+        ensures { result ≡ config_answer self payload.now v }
+    {
+        match v {
+            Verdict::Unexpected => self,
+            Verdict::Good(_) => {
+                self.done(
+                    0,
+                    if self.write {
+                        0
+                    } else {
+                        ecam::data_word(payload)
+                    },
+                )
             }
-            config_done(c, 0, 0xFFFF_FFFF)
+            Verdict::Poisoned(_) => self.done(2, 0),
+            Verdict::Failed(why) => self.failed(why),
         }
-        Cause::RequestRetry => config_done(c, 2, 0),
-        Cause::CompleterAbort => config_done(c, 2, 0),
-        Cause::Poison => config_done(c, 2, 0),
-        Cause::Timeout => config_done(c, 2, 0),
     }
-}
 
-// What the configuration slot holds then.
-pub fn config_answer(c: ConfigSlot, payload: &[u8], v: Verdict) -> ConfigSlot
-    ensures { result ≡ config_answer c payload.now v }
-{
-    match v {
-        Verdict::Unexpected => c,
-        Verdict::Good(_) => {
-            let word = config_word(c.write, payload);
-            config_done(c, 0, word)
+    // What it holds when the link goes down: an open access is finished.
+    pub fn dropped(self) -> ConfigSlot
+        ensures { result ≡ drop_config self }
+    {
+        if self.state == OPEN {
+            self.done(2, 0)
+        } else {
+            self
         }
-        Verdict::Poisoned(_) => config_done(c, 2, 0),
-        Verdict::Failed(why) => config_failed(c, why),
     }
 }
 
-// The configuration access is finished as SLVERR with zero data, and bit 8 is set.
-pub fn config_timeout(c: Core) -> Core
-    ensures { (cells : List ℕ) → core_from result cells ≡ raised_core cfg_timeout (with_config (config_done c.config slverr 0) (core_from c cells)) }
-{
-    let config = c.config;
-    let mut d = c;
-    d.config = config_done(config, 2, 0);
-    raise_in(d, CFG_TIMEOUT)
-}
-
-// An open access is finished when the link goes down.
-pub fn drop_config(c: ConfigSlot) -> ConfigSlot
-    ensures { result ≡ drop_config c }
-{
-    if c.state == OPEN {
-        return config_done(c, 2, 0);
+impl Core {
+    // The refusals in their order: 8, 5, the route's 9, 10 or 11, and of what goes out 4 and 7.
+    #[tactic(auto, unfolding(crate::specs::Access::config_number))]
+    pub fn config_refusal(&self, x: Route, room: usize) -> Result<(), Refusal>
+        ensures { (cells : List ℕ) → number_in result ≡ config_number (core_from self.now cells) x room }
+    {
+        if room < AREA_SIZE {
+            return Err(Refusal::TooShort);
+        }
+        if self.config.state != FREE {
+            return Err(Refusal::ConfigBusy);
+        }
+        match x {
+            Route::OutOfRange => return Err(Refusal::OffsetOver),
+            Route::NotRouted => return Err(Refusal::NotRouted),
+            Route::DeviceNotZero => return Err(Refusal::WrongDevice),
+            _ => {}
+        }
+        if goes_out(x) & !self.registers.link {
+            return Err(Refusal::LinkDown);
+        }
+        if goes_out(x) & (tags::available(self.free) == 0) {
+            return Err(Refusal::FewTags);
+        }
+        Ok(())
     }
-    c
-}
 
-// A configuration slot that is free.
-pub fn free_config() -> ConfigSlot
-    ensures { result ≡ free_config }
-{
-    ConfigSlot {
-        state: FREE,
-        write: false,
-        response: 0,
-        word: 0,
-        figures: no_figures(),
+    // A local access, of word w, finishes at once.
+    #[tactic(auto, unfolding(crate::specs::Access::local_core))]
+    pub fn finish_local(
+        &mut self,
+        cells: &[u32; DEPTH],
+        offset: u64,
+        write: bool,
+        strobes: u32,
+        word: u32,
+        w: u32,
+    )
+        ensures { core_from self.new cells.now ≡ local_core (core_from self.old cells.now) (access_of offset write strobes word) w }
+    {
+        let slot = ConfigSlot::open(write, self.figures());
+        if write {
+            self.registers = ecam::registers::local_write(self.registers, w, strobes, word);
+            self.config = slot.done(0, 0);
+        } else {
+            self.config = slot.done(0, ecam::registers::local_read(self.registers, cells, w));
+        }
+    }
+
+    // The configuration access is finished as SLVERR with zero data, and bit 8 is set.
+    pub fn time_out_config(&mut self)
+        ensures { (cells : List ℕ) → core_from self.new cells ≡ raised_core cfg_timeout (with_config (config_done self.old.config slverr 0) (core_from self.old cells)) }
+    {
+        self.config = self.config.done(2, 0);
+        self.raise(CFG_TIMEOUT);
     }
 }

@@ -1,4 +1,4 @@
-// The bridge's small parts, passed by value, and the decisions on them, which know no table but what they are given.
+// The bridge's state and its small parts, and the decisions on them.
 #![tactic(auto)]
 
 pub mod access;
@@ -7,8 +7,9 @@ pub mod cores;
 pub mod numbers;
 pub mod requests;
 
+use address::Settings;
 use ecam::registers::Registers;
-use refusals::Response;
+use refusals::{Refusal, Response};
 
 // How many tags and read slots, and how long a slot, the store and the sending area.
 pub const TAGS: usize = 32;
@@ -25,6 +26,7 @@ pub const AREA_SIZE: usize = 4608;
 pub const CONFIG_SLOT: u32 = 8;
 
 // The state of a slot.
+// Kept as numbers: they stand in public fields of a bridge, whose methods answer for every value there (`release_step`).
 pub const FREE: u32 = 0;
 
 pub const OPEN: u32 = 1;
@@ -32,51 +34,22 @@ pub const OPEN: u32 = 1;
 pub const FINISHED: u32 = 2;
 
 // The kind of a request that waits for completions.
+// Kept as numbers, as the state of a slot is (`verdict_of`).
 pub const MEMORY_READ: u32 = 0;
 
 pub const CONFIG_READ: u32 = 1;
 
 pub const CONFIG_WRITE: u32 = 2;
 
-// The columns of the table by tag: the tick of sending; the slot, 8 for configuration; the place in the slot of the next
-// byte; the next PCIe address mod 128; the kind. The missing count, 0 where the tag is not open, is a table of its own.
-pub const SENT: usize = 0;
-
-pub const OWNER: usize = TAGS;
-
-pub const PLACE: usize = 2 * TAGS;
-
-pub const NEXT: usize = 3 * TAGS;
-
-pub const KIND: usize = 4 * TAGS;
-
-pub const TAG_CELLS: usize = 5 * TAGS;
-
-// The columns of the table by slot: the state; the burst's length; the open pieces; the place of the first failure, 4,096
-// for none; its response in AXI's coding, 0 for none; the session in which the read was accepted.
-pub const STATE: usize = 0;
-
-pub const SIZE: usize = SLOTS;
-
-pub const PIECES: usize = 2 * SLOTS;
-
-pub const FAULT: usize = 3 * SLOTS;
-
-pub const CAUSE: usize = 4 * SLOTS;
-
-pub const SESSION: usize = 5 * SLOTS;
-
-pub const SLOT_CELLS: usize = 6 * SLOTS;
-
 // The figures of a kept answer. Only an accepted release reports them; every other answer has 0 for each.
-#[derive(Clone, Copy)]
+#[derive(Clone, Copy, Debug, PartialEq, Eq)]
 pub struct Figures {
     // The session in which the access was accepted.
     pub session: u32,
 }
 
 // The configuration slot.
-#[derive(Clone, Copy)]
+#[derive(Clone, Copy, Debug, PartialEq, Eq)]
 pub struct ConfigSlot {
     // FREE, OPEN or FINISHED.
     pub state: u32,
@@ -89,7 +62,7 @@ pub struct ConfigSlot {
 
 // What is kept of a request by its tag: the slot of its bytes (8 for configuration), their place there, how many, the PCIe
 // address of the first mod 128, and the kind.
-#[derive(Clone, Copy)]
+#[derive(Clone, Copy, Debug, PartialEq, Eq)]
 pub struct Pending {
     pub slot: u32,
     pub place: u32,
@@ -98,7 +71,7 @@ pub struct Pending {
     pub kind: u32,
 }
 
-// What is not a table: small enough to pass by value. The queued error messages stand in cells that are lent beside it.
+// The registers and what else is kept once. The queued error messages stand in cells that are lent beside it.
 #[derive(Clone, Copy)]
 pub struct Core {
     pub registers: Registers,
@@ -110,10 +83,50 @@ pub struct Core {
     pub config: ConfigSlot,
 }
 
+// What is kept by a tag beside its missing count.
+#[derive(Clone, Copy, Debug, PartialEq, Eq)]
+pub struct TagRow {
+    // The tick of sending.
+    pub sent: u32,
+    // The slot, 8 for configuration.
+    pub owner: u32,
+    // The place in the slot of the next byte.
+    pub place: u32,
+    // The PCIe address of the next byte mod 128.
+    pub next: u32,
+    pub kind: u32,
+}
+
+// What is kept by a read slot.
+#[derive(Clone, Copy, Debug, PartialEq, Eq)]
+pub struct SlotRow {
+    // FREE, OPEN or FINISHED.
+    pub state: u32,
+    // The burst's length.
+    pub size: u32,
+    // The open pieces.
+    pub pieces: u32,
+    // The place of the first failure, 4,096 for none, and its response in AXI's coding, 0 for none.
+    pub fault: u32,
+    pub cause: u32,
+    // The session in which the read was accepted.
+    pub session: u32,
+}
+
+// A bridge but for the cells of its queued error messages, which few events look at.
 #[derive(Clone, Copy)]
-pub struct Answer {
-    // The refusal number, 0 for accepted.
-    pub number: u32,
+pub struct State {
+    pub settings: Settings,
+    pub core: Core,
+    // By tag: the bytes still missing, 0 where the tag is not open.
+    pub missing: [u32; TAGS],
+    pub tags: [TagRow; TAGS],
+    pub slots: [SlotRow; SLOTS],
+}
+
+// What an accepted event answers.
+#[derive(Clone, Copy, Debug, PartialEq, Eq)]
+pub struct Accepted {
     pub response: Response,
     pub slot: u32,
     // How many bytes were sent.
@@ -122,9 +135,4 @@ pub struct Answer {
     pub figures: Figures,
 }
 
-// What an event on lent tables hands back.
-#[derive(Clone, Copy)]
-pub struct Done {
-    pub core: Core,
-    pub answer: Answer,
-}
+pub type Answer = Result<Accepted, Refusal>;
