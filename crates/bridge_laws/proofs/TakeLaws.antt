@@ -13,7 +13,7 @@ use Rattle.refusals.specs.Table.{take_order, refused_by}
 use Rattle.refusals.specs.declared.Response.TheVariants.{Nothing, Okay, Slverr, Decerr, Wait}
 use Rattle.machine.specs.Bridge.{Bridge}
 use Rattle.parts.specs.Cores.{Core}
-use Rattle.parts.specs.declared.Answer.{Answer}
+use Rattle.parts.specs.Answers.{Answer}
 use Rattle.machine.specs.State.{Answered, slot_count, free_config, core_in, response_of, refusal_change, refusal, taken, answered, refused}
 use Rattle.machine.specs.Completions.{store_size, size_of}
 use Rattle.machine.specs.Take.{state_in, state_of, take_number, take_refusal, looked, slot_freed, release_step}

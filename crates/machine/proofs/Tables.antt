@@ -1,197 +1,102 @@
--- A store in one of the code's flat tables is the setter of its column: one law for each column, by the laws of a column.
-use mathlib.Core.Path.{◌≡◌, sym, ap, ◌∙◌}
-use mathlib.Core.List.{List}
-use Prim.Native.Nat.{ℕ, zero, suc, ◌+◌, ◌-◌, ◌*◌, ◌≤◌, ◌<◌}
-use native.Mathlib.Omega.{arith}
-use native.Mathlib.Decide.{dec_lt}
-use native.Mathlib.Nat.{suc-mul}
-use lib.ListN.{set, get_or, length}
-use lib.Seq.{ext_get_or}
+-- A row that is written is a setter for each of its columns, and a cell of a column is a field of its row.
+use Rattle.std.proofs.Common.{◌≡◌, ℕ, List, set, get_or, map, refl, sym, ap}
+use Rattle.std.proofs.lemmas.List.{map-set, set-get_or}
+use Rattle.std.proofs.Math.ListN.{get_or-map}
+use Rattle.std.proofs.Math.Seq.{map-set_same}
+use Rattle.address.specs.declared.Settings.{Settings}
 use Rattle.parts.specs.declared.Core.{Core}
-use Rattle.parts.specs.Sizes.{tag_count, slot_count}
-use Rattle.parts.specs.Code.Columns.{column, tag_cells, slot_cells, sent_column, owner_column, place_column, next_column, kind_column, state_column, size_column, pieces_column, fault_column, cause_column, session_column}
-use Rattle.parts.proofs.Columns.{at, below, above, get}
-use Rattle.machine.specs.Bridge.{Bridge, set_sent, set_owner, set_place, set_next, set_kind, set_state, set_size, set_pieces, set_fault, set_cause, set_session}
-use Rattle.machine.specs.Code.Tables.{Fixed, bridge_of}
+use Rattle.parts.specs.declared.State.{State}
+use Rattle.parts.specs.declared.TagRow.{TagRow}
+use Rattle.parts.specs.declared.SlotRow.{SlotRow}
+use Rattle.parts.specs.Code.Struct.{owners_of, places_of, nexts_of, kinds_of, sents_of, states_of, sizes_of, pieces_of, faults_of, causes_of, sessions_of}
+use Rattle.machine.specs.Bridge.{set_sent, set_owner, set_place, set_next, set_kind, set_state, set_size, set_pieces, set_fault, set_cause, set_session}
+use Rattle.machine.specs.Code.Tables.{bridge_of}
 
--- ---- by tag
+-- what stands where there is no row
+abbrev pub no_tag : TagRow
+no_tag = record { sent = 0; owner = 0; place = 0; next = 0; kind = 0 }
 
-module _ (s : Fixed) (d : Core) (m t x : List ℕ) (k v : ℕ) (h : k < tag_count) where
-  pub put_sent_lem : bridge_of s d m (set t (sent_column + k) v) x ≡ set_sent k v (bridge_of s d m t x)
-  put_sent_lem =
+abbrev pub no_slot : SlotRow
+no_slot = record { state = 0; size = 0; pieces = 0; fault = 0; cause = 0; session = 0 }
+
+abbrev pub tag_row : State → ℕ → TagRow
+tag_row b t = get_or b.tags t no_tag
+
+abbrev pub slot_row : State → ℕ → SlotRow
+slot_row b k = get_or b.slots k no_slot
+
+-- ---- the state with a row put anew
+
+abbrev pub with_tag : ℕ → TagRow → State → State
+with_tag t r b = record { settings = b.settings; core = b.core; missing = b.missing; tags = set b.tags t r; slots = b.slots }
+
+abbrev pub with_slot : ℕ → SlotRow → State → State
+with_slot k r b = record { settings = b.settings; core = b.core; missing = b.missing; tags = b.tags; slots = set b.slots k r }
+
+module _ (cells : List ℕ) (b : State) where
+  pub put_tag : (t : ℕ) (r : TagRow) → bridge_of cells (with_tag t r b) ≡ set_sent t r.sent (set_owner t r.owner (set_place t r.place (set_next t r.next (set_kind t r.kind (bridge_of cells b)))))
+  put_tag t r =
       rw (
-        at tag_count sent_column t k v h,
-        below tag_count owner_column t (sent_column + k) v (omega (arith, h)),
-        below tag_count place_column t (sent_column + k) v (omega (arith, h)),
-        below tag_count next_column t (sent_column + k) v (omega (arith, h)),
-        below tag_count kind_column t (sent_column + k) v (omega (arith, h)),
+        map-set (λ (x : TagRow). x.sent) b.tags t r,
+        map-set (λ (x : TagRow). x.owner) b.tags t r,
+        map-set (λ (x : TagRow). x.place) b.tags t r,
+        map-set (λ (x : TagRow). x.next) b.tags t r,
+        map-set (λ (x : TagRow). x.kind) b.tags t r,
       )
 
-  pub put_owner_lem : bridge_of s d m (set t (owner_column + k) v) x ≡ set_owner k v (bridge_of s d m t x)
-  put_owner_lem =
+  pub put_slot : (k : ℕ) (r : SlotRow) → bridge_of cells (with_slot k r b) ≡ set_state k r.state (set_size k r.size (set_pieces k r.pieces (set_fault k r.fault (set_cause k r.cause (set_session k r.session (bridge_of cells b))))))
+  put_slot k r =
       rw (
-        above tag_count sent_column t (owner_column + k) v (omega (arith, h)),
-        at tag_count owner_column t k v h,
-        below tag_count place_column t (owner_column + k) v (omega (arith, h)),
-        below tag_count next_column t (owner_column + k) v (omega (arith, h)),
-        below tag_count kind_column t (owner_column + k) v (omega (arith, h)),
+        map-set (λ (x : SlotRow). x.state) b.slots k r,
+        map-set (λ (x : SlotRow). x.size) b.slots k r,
+        map-set (λ (x : SlotRow). x.pieces) b.slots k r,
+        map-set (λ (x : SlotRow). x.fault) b.slots k r,
+        map-set (λ (x : SlotRow). x.cause) b.slots k r,
+        map-set (λ (x : SlotRow). x.session) b.slots k r,
       )
 
-  pub put_place_lem : bridge_of s d m (set t (place_column + k) v) x ≡ set_place k v (bridge_of s d m t x)
-  put_place_lem =
-      rw (
-        above tag_count sent_column t (place_column + k) v (omega (arith, h)),
-        above tag_count owner_column t (place_column + k) v (omega (arith, h)),
-        at tag_count place_column t k v h,
-        below tag_count next_column t (place_column + k) v (omega (arith, h)),
-        below tag_count kind_column t (place_column + k) v (omega (arith, h)),
-      )
+-- ---- a cell
 
-  pub put_next_lem : bridge_of s d m (set t (next_column + k) v) x ≡ set_next k v (bridge_of s d m t x)
-  put_next_lem =
-      rw (
-        above tag_count sent_column t (next_column + k) v (omega (arith, h)),
-        above tag_count owner_column t (next_column + k) v (omega (arith, h)),
-        above tag_count place_column t (next_column + k) v (omega (arith, h)),
-        at tag_count next_column t k v h,
-        below tag_count kind_column t (next_column + k) v (omega (arith, h)),
-      )
+pub owner_cell : (rows : List TagRow) (t : ℕ) → get_or (owners_of rows) t 0 ≡ (get_or rows t no_tag).owner
+owner_cell rows t = get_or-map (λ (r : TagRow). r.owner) rows t no_tag
 
-  pub put_kind_lem : bridge_of s d m (set t (kind_column + k) v) x ≡ set_kind k v (bridge_of s d m t x)
-  put_kind_lem =
-      rw (
-        above tag_count sent_column t (kind_column + k) v (omega (arith, h)),
-        above tag_count owner_column t (kind_column + k) v (omega (arith, h)),
-        above tag_count place_column t (kind_column + k) v (omega (arith, h)),
-        above tag_count next_column t (kind_column + k) v (omega (arith, h)),
-        at tag_count kind_column t k v h,
-      )
+pub place_cell : (rows : List TagRow) (t : ℕ) → get_or (places_of rows) t 0 ≡ (get_or rows t no_tag).place
+place_cell rows t = get_or-map (λ (r : TagRow). r.place) rows t no_tag
 
--- ---- by slot
+pub next_cell : (rows : List TagRow) (t : ℕ) → get_or (nexts_of rows) t 0 ≡ (get_or rows t no_tag).next
+next_cell rows t = get_or-map (λ (r : TagRow). r.next) rows t no_tag
 
-module _ (s : Fixed) (d : Core) (m t x : List ℕ) (k v : ℕ) (h : k < slot_count) where
-  pub put_state_lem : bridge_of s d m t (set x (state_column + k) v) ≡ set_state k v (bridge_of s d m t x)
-  put_state_lem =
-      rw (
-        at slot_count state_column x k v h,
-        below slot_count size_column x (state_column + k) v (omega (arith, h)),
-        below slot_count pieces_column x (state_column + k) v (omega (arith, h)),
-        below slot_count fault_column x (state_column + k) v (omega (arith, h)),
-        below slot_count cause_column x (state_column + k) v (omega (arith, h)),
-        below slot_count session_column x (state_column + k) v (omega (arith, h)),
-      )
+pub kind_cell : (rows : List TagRow) (t : ℕ) → get_or (kinds_of rows) t 0 ≡ (get_or rows t no_tag).kind
+kind_cell rows t = get_or-map (λ (r : TagRow). r.kind) rows t no_tag
 
-  pub put_size_lem : bridge_of s d m t (set x (size_column + k) v) ≡ set_size k v (bridge_of s d m t x)
-  put_size_lem =
-      rw (
-        above slot_count state_column x (size_column + k) v (omega (arith, h)),
-        at slot_count size_column x k v h,
-        below slot_count pieces_column x (size_column + k) v (omega (arith, h)),
-        below slot_count fault_column x (size_column + k) v (omega (arith, h)),
-        below slot_count cause_column x (size_column + k) v (omega (arith, h)),
-        below slot_count session_column x (size_column + k) v (omega (arith, h)),
-      )
+pub sent_cell : (rows : List TagRow) (t : ℕ) → get_or (sents_of rows) t 0 ≡ (get_or rows t no_tag).sent
+sent_cell rows t = get_or-map (λ (r : TagRow). r.sent) rows t no_tag
 
-  pub put_pieces_lem : bridge_of s d m t (set x (pieces_column + k) v) ≡ set_pieces k v (bridge_of s d m t x)
-  put_pieces_lem =
-      rw (
-        above slot_count state_column x (pieces_column + k) v (omega (arith, h)),
-        above slot_count size_column x (pieces_column + k) v (omega (arith, h)),
-        at slot_count pieces_column x k v h,
-        below slot_count fault_column x (pieces_column + k) v (omega (arith, h)),
-        below slot_count cause_column x (pieces_column + k) v (omega (arith, h)),
-        below slot_count session_column x (pieces_column + k) v (omega (arith, h)),
-      )
+pub state_cell : (rows : List SlotRow) (k : ℕ) → get_or (states_of rows) k 0 ≡ (get_or rows k no_slot).state
+state_cell rows k = get_or-map (λ (r : SlotRow). r.state) rows k no_slot
 
-  pub put_fault_lem : bridge_of s d m t (set x (fault_column + k) v) ≡ set_fault k v (bridge_of s d m t x)
-  put_fault_lem =
-      rw (
-        above slot_count state_column x (fault_column + k) v (omega (arith, h)),
-        above slot_count size_column x (fault_column + k) v (omega (arith, h)),
-        above slot_count pieces_column x (fault_column + k) v (omega (arith, h)),
-        at slot_count fault_column x k v h,
-        below slot_count cause_column x (fault_column + k) v (omega (arith, h)),
-        below slot_count session_column x (fault_column + k) v (omega (arith, h)),
-      )
+pub size_cell : (rows : List SlotRow) (k : ℕ) → get_or (sizes_of rows) k 0 ≡ (get_or rows k no_slot).size
+size_cell rows k = get_or-map (λ (r : SlotRow). r.size) rows k no_slot
 
-  pub put_cause_lem : bridge_of s d m t (set x (cause_column + k) v) ≡ set_cause k v (bridge_of s d m t x)
-  put_cause_lem =
-      rw (
-        above slot_count state_column x (cause_column + k) v (omega (arith, h)),
-        above slot_count size_column x (cause_column + k) v (omega (arith, h)),
-        above slot_count pieces_column x (cause_column + k) v (omega (arith, h)),
-        above slot_count fault_column x (cause_column + k) v (omega (arith, h)),
-        at slot_count cause_column x k v h,
-        below slot_count session_column x (cause_column + k) v (omega (arith, h)),
-      )
+pub pieces_cell : (rows : List SlotRow) (k : ℕ) → get_or (pieces_of rows) k 0 ≡ (get_or rows k no_slot).pieces
+pieces_cell rows k = get_or-map (λ (r : SlotRow). r.pieces) rows k no_slot
 
-  pub put_session_lem : bridge_of s d m t (set x (session_column + k) v) ≡ set_session k v (bridge_of s d m t x)
-  put_session_lem =
-      rw (
-        above slot_count state_column x (session_column + k) v (omega (arith, h)),
-        above slot_count size_column x (session_column + k) v (omega (arith, h)),
-        above slot_count pieces_column x (session_column + k) v (omega (arith, h)),
-        above slot_count fault_column x (session_column + k) v (omega (arith, h)),
-        above slot_count cause_column x (session_column + k) v (omega (arith, h)),
-        at slot_count session_column x k v h,
-      )
+pub fault_cell : (rows : List SlotRow) (k : ℕ) → get_or (faults_of rows) k 0 ≡ (get_or rows k no_slot).fault
+fault_cell rows k = get_or-map (λ (r : SlotRow). r.fault) rows k no_slot
 
--- ---- the columns decide their tables
+pub cause_cell : (rows : List SlotRow) (k : ℕ) → get_or (causes_of rows) k 0 ≡ (get_or rows k no_slot).cause
+cause_cell rows k = get_or-map (λ (r : SlotRow). r.cause) rows k no_slot
 
--- equal columns have equal cells
-agree : (n c : ℕ) (x y : List ℕ) → column n c x ≡ column n c y → (i : ℕ) → c ≤ i → i < c + n → get_or x i 0 ≡ get_or y i 0
-agree n c x y e i l m =
-    let f : i ≡ c + (i - c) = omega arith in
-    let k : i - c < n = omega arith in
-    ap (λ (j : ℕ). get_or x j 0) f
-    ∙ (sym (get n c x (i - c) k) ∙ (ap (λ (z : List ℕ). get_or z (i - c) 0) e ∙ (get n c y (i - c) k ∙ ap (λ (j : ℕ). get_or y j 0) (sym f))))
+pub session_cell : (rows : List SlotRow) (k : ℕ) → get_or (sessions_of rows) k 0 ≡ (get_or rows k no_slot).session
+session_cell rows k = get_or-map (λ (r : SlotRow). r.session) rows k no_slot
 
--- w columns of n cells, from c on, are equal
-abbrev Agree : ℕ → ℕ → ℕ → List ℕ → List ℕ → Type 0
-Agree n c zero x y = Unit
-Agree n c (suc w) x y = (column n c x ≡ column n c y) × Agree n (c + n) w x y
+-- ---- a column whose field a written row keeps
 
-cells_agree : (n c w : ℕ) (x y : List ℕ) → Agree n c w x y → (i : ℕ) → c ≤ i → i < c + w * n → get_or x i 0 ≡ get_or y i 0
-cells_agree n c zero x y e i l m = absurd (omega arith)
-cells_agree n c (suc w) x y e i l m = by (dec_lt i (c + n)) (cells_agree n (c + n) w x y e.1 i)
-  where
-    by : Dec (i < c + n) → (c + n ≤ i → i < c + n + w * n → get_or x i 0 ≡ get_or y i 0) → get_or x i 0 ≡ get_or y i 0
-    by (yes p) f = agree n c x y e.0 i l p
-    by (no p) f = f (omega arith) (omega (arith, m, suc-mul w n))
+pub same_tag : (f : TagRow → ℕ) (rows : List TagRow) (t : ℕ) (r : TagRow) → f r ≡ f (get_or rows t no_tag) → map f (set rows t r) ≡ map f rows
+same_tag f rows t r e = map-set_same f rows t r no_tag e
 
--- a table of w columns is equal to another where each column is
-table_agrees : (n w : ℕ) (x y : List ℕ) → length x ≡ w * n → length y ≡ w * n → Agree n 0 w x y → x ≡ y
-table_agrees n w x y lx ly e = ext_get_or 0 x y (lx ∙ sym ly) (λ i l. cells_agree n 0 w x y e i (omega arith) (omega (arith, lx)))
+pub same_slot : (f : SlotRow → ℕ) (rows : List SlotRow) (k : ℕ) (r : SlotRow) → f r ≡ f (get_or rows k no_slot) → map f (set rows k r) ≡ map f rows
+same_slot f rows k r e = map-set_same f rows k r no_slot e
 
-module _ (s r : Fixed) (c d : Core) (m n t u x y : List ℕ) (e : bridge_of s c m t x ≡ bridge_of r d n u y) where
-  pub same_tags : length t ≡ tag_cells → length u ≡ tag_cells → t ≡ u
-  same_tags v w =
-      table_agrees tag_count 5 t u v w (
-        ap (λ (b : Bridge). b.sent) e,
-        (
-          ap (λ (b : Bridge). b.owner) e,
-          (
-            ap (λ (b : Bridge). b.place) e,
-            (
-              ap (λ (b : Bridge). b.next) e,
-              (ap (λ (b : Bridge). b.kind) e, tt),
-            ),
-          ),
-        ),
-      )
+-- ---- rows are decided by their columns
 
-  pub same_slots : length x ≡ slot_cells → length y ≡ slot_cells → x ≡ y
-  same_slots v w =
-      table_agrees slot_count 6 x y v w (
-        ap (λ (b : Bridge). b.state) e,
-        (
-          ap (λ (b : Bridge). b.size) e,
-          (
-            ap (λ (b : Bridge). b.pieces) e,
-            (
-              ap (λ (b : Bridge). b.fault) e,
-              (ap (λ (b : Bridge). b.cause) e, (ap (λ (b : Bridge). b.session) e, tt)),
-            ),
-          ),
-        ),
-      )

@@ -10,7 +10,7 @@ use Rattle.ecam.specs.Registers.{Registers}
 use Rattle.ecam.specs.Registers.{line}
 use Rattle.refusals.specs.declared.Response.TheVariants.{Nothing}
 use Rattle.refusals.specs.Table.{setting}
-use Rattle.parts.specs.declared.Answer.{Answer}
+use Rattle.parts.specs.Answers.{Answer}
 use Rattle.parts.specs.declared.Pending.{Pending}
 pub use Rattle.parts.specs.Sizes.{slot_count, slot_size, config_slot, slot_free, slot_open, slot_finished, memory_read, config_read, config_write}
 pub use Rattle.machine.specs.Bridge.{Bridge, missing_of, sent_of, owner_of, place_of, next_address, kind_of, slot_state, size_of, open_pieces, fault_of, failure_of, session_of, Tag, tag_at, Slot, slot_at, core_in, put_missing, put_sent, put_owner, put_place, put_next, put_kind, put_state, put_size, put_pieces, put_fault, put_cause, put_session, set_missing, set_sent, set_owner, set_place, set_next, set_kind, set_state, set_size, set_pieces, set_fault, set_cause, set_session}

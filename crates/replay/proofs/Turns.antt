@@ -12,7 +12,7 @@ use lib.Dec.{lit≤, eqb-suc-zero}
 use Rattle.records.specs.Events.{Captured}
 use Rattle.records.specs.Stream.{Reader, is_reading, Pushed, pushed, push}
 use Rattle.records.specs.Code.Steps.{Steps, last, then}
-use Rattle.parts.specs.declared.Answer.{Answer}
+use Rattle.parts.specs.Answers.{Answer}
 use Rattle.replay.specs.Events.{Told, tells, Stage, played, row_of}
 use Rattle.replay.specs.Play.{playing, Played, more, counts, staged, play}
 use Rattle.replay.specs.Code.Tables.{Does, Turned}

@@ -1,7 +1,7 @@
 -- One event of a capture, played: the definitions of the bridge's calls, on the store and the sending area that a player lends.
 use Rattle.std.specs.Prelude.{ℕ, List, [], ◌∷◌, ◌++◌, true, false, cond, length}
 use Rattle.refusals.specs.Responses.{code_of}
-use Rattle.parts.specs.declared.Answer.{Answer}
+use Rattle.parts.specs.Answers.{Answer}
 use Rattle.machine.specs.State.{Answered}
 use Rattle.machine.specs.Memory.{read_step, read_area, write_step, write_area}
 use Rattle.machine.specs.Config.{access_of, config_step, config_area}

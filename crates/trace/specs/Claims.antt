@@ -9,7 +9,7 @@ use Rattle.address.specs.declared.Settings.{Settings}
 use Rattle.burst.specs.declared.Burst.{Burst}
 use Rattle.burst.specs.Bursts.{length_of}
 use Rattle.burst.specs.Pieces.{addresses}
-use Rattle.parts.specs.declared.Answer.{Answer}
+use Rattle.parts.specs.Answers.{Answer}
 use Rattle.parts.specs.declared.Figures.{Figures}
 use Rattle.machine.specs.Bridge.{Bridge}
 use Rattle.refusals.specs.declared.Response.TheVariants.{Okay}

@@ -5,7 +5,7 @@ use Rattle.std.proofs.Math.Option.{Option, none, some}
 use Rattle.address.specs.declared.Settings.{Settings}
 use Rattle.ecam.specs.Registers.{Registers}
 use Rattle.burst.specs.declared.Burst.{Burst}
-use Rattle.parts.specs.declared.Answer.{Answer}
+use Rattle.parts.specs.Answers.{Answer}
 use Rattle.machine.specs.Bridge.{Bridge}
 use Rattle.machine.specs.State.{new_bridge, registers_of}
 use Rattle.machine.specs.Memory.{read_refusal, read_bytes, read_step, write_refusal, write_bytes, write_step}

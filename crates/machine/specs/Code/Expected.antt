@@ -1,13 +1,12 @@
 -- What the steps of a completion tell each other: its useful bytes are there, and its tag is open.
-use Rattle.std.specs.Prelude.{ℕ, ◌+◌, ◌*◌, ◌%◌, ◌≤◌, ◌<◌, ◌≡◌, List, true, length, get_or}
+use Rattle.std.specs.Prelude.{ℕ, ◌+◌, ◌*◌, ◌%◌, ◌≤◌, ◌<◌, ◌≡◌, List, true, length}
 use Rattle.tlp.specs.declared.completion.Completion.{Completion}
 use Rattle.tlp.specs.declared.completion.CompletionRead.{CompletionRead}
 use Rattle.tlp.specs.declared.completion.CompletionRead.TheVariants.{Header, Malformed}
 use Rattle.tlp.specs.Completion.{valid_completion}
 use Rattle.verdict.specs.declared.Verdict.{Verdict}
 use Rattle.verdict.specs.declared.Verdict.TheVariants.{Unexpected, Good, Poisoned, Failed}
-use Rattle.parts.specs.Code.Columns.{owner_column, place_column}
-use Rattle.machine.specs.State.{tag_count, slot_count, is_open}
+use Rattle.machine.specs.State.{Bridge, tag_count, slot_count, is_open, missing_of, place_of, owner_of}
 use Rattle.machine.specs.Verdict.{memory_verdict}
 use Rattle.machine.specs.Completions.{completion_of}
 
@@ -35,9 +34,8 @@ Whole s Malformed = Unit
 abbrev pub ReadWhole : Type 0
 ReadWhole = (s : List ℕ) → Whole s (completion_of s)
 
--- an expected completion's tag is one of the tags and open, and a memory read's useful bytes are there: said of the missing
--- counts and the table by tag
-pub record Expects (missing tags : List ℕ) (c : Completion) (v : Verdict) : Type 0 where
+-- an expected completion's tag is one of the tags and open, and a memory read's useful bytes are there
+pub record Expects (b : Bridge) (c : Completion) (v : Verdict) : Type 0 where
   pub tag : c.tag < tag_count
-  pub opened : is_open (get_or missing c.tag 0) (get_or tags (place_column + c.tag) 0) ≡ true
-  pub fits : valid_completion c ≡ true → get_or tags (owner_column + c.tag) 0 < slot_count → Fits c (get_or missing c.tag 0) v
+  pub opened : is_open (missing_of b c.tag) (place_of b c.tag) ≡ true
+  pub fits : valid_completion c ≡ true → owner_of b c.tag < slot_count → Fits c (missing_of b c.tag) v

@@ -11,7 +11,7 @@ use lib.Dec.{eqb, ltb}
 use borrow.Author.Tests.{lt-ltb, le-ltb}
 use Rattle.address.specs.Settings.{settings_number}
 use Rattle.burst.specs.declared.Burst.{Burst}
-use Rattle.parts.specs.declared.Answer.{Answer}
+use Rattle.parts.specs.Answers.{Answer}
 use Rattle.parts.specs.declared.ConfigSlot.{ConfigSlot}
 use Rattle.machine.specs.State.{Bridge, Slot, slot_at, slot_state, failure_of, slot_count, slot_size, slot_open, config_slot, no_figures, taken, response_of}
 use Rattle.machine.specs.Memory.{read_refusal, read_bytes, write_refusal}

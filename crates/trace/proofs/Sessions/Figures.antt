@@ -6,7 +6,7 @@ use lib.ListN.{length}
 use lib.Dec.{eqb}
 use borrow.Author.Tests.{eqb-true, eq-eqb}
 use Rattle.address.specs.Settings.{settings_number}
-use Rattle.parts.specs.declared.Answer.{Answer}
+use Rattle.parts.specs.Answers.{Answer}
 use Rattle.machine.specs.State.{Answered, no_figures, accepted, refusal, refused, new_bridge}
 use Rattle.machine.specs.Memory.{read_step, write_step, read_refusal, write_refusal}
 use Rattle.machine.specs.Config.{config_step, config_refusal}

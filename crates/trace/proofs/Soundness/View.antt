@@ -25,7 +25,7 @@ use Rattle.machine.specs.Ticks.{next_tick, expire_to, ticked, link_to, link_lost
 use Rattle.machine.specs.Messages.{message_refusal, message_bridge, message_step}
 use Rattle.machine.specs.Take.{take_refusal, slot_freed, release_step}
 use Rattle.parts.specs.Cores.{Core}
-use Rattle.parts.specs.declared.Answer.{Answer}
+use Rattle.parts.specs.Answers.{Answer}
 use Rattle.ecam.specs.Route.{number_of}
 use native.Mathlib.Omega.{arith}
 use Rattle.bridge_laws.specs.CompletionLaws.{Ours, Came, short, malformed, lost, memory, config}

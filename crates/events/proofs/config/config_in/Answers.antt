@@ -1,6 +1,6 @@
 use Rattle.parts.specs.Code.Struct.{core_from}
 use Rattle.machine.specs.Bridge.{core_in}
-use Rattle.parts.specs.declared.Answer.{Answer}
+use Rattle.parts.specs.Answers.{Answer}
 use Rattle.parts.specs.Cores.{with_config, open_config, figures_now}
 use Rattle.machine.specs.State.{opened}
 use Rattle.machine.specs.Config.{word_pending}
