@@ -1,5 +1,5 @@
-// The verbs of the machine, one at a time, on lent tables: the missing counts, the table by tag and the table by slot. Each
-// is lent what it changes or looks at, and its contract says which definition of `machine` the tables mean then.
+// The verbs of the machine, one at a time, on the code's state: each contract says which definition of `machine` the state
+// means then, whatever the cells of the queued messages hold.
 #![tactic(auto)]
 
 pub mod memory;

@@ -1,69 +1,63 @@
 // What refuses a memory burst.
-ghost use Rattle.std.specs.Prelude.{◌≡◌, List, ℕ};
-ghost use Rattle.parts.specs.Code.Struct.{core_from};
-ghost use Rattle.machine.specs.Refusals.{read_number, write_number};
+ghost use Rattle.std.specs.Prelude.{◌≡◌, List, ℕ, Ok};
+ghost use Rattle.refusals.specs.Refusals.{number_in};
+ghost use Rattle.machine.specs.State.{free_slot};
+ghost use Rattle.machine.specs.Memory.{read_refusal, write_refusal};
+ghost use Rattle.machine.specs.Code.Tables.{bridge_of};
 
-use address::Settings;
 use burst::Burst;
 use packets::no_window;
-use parts::{AREA_SIZE, CONFIG_SLOT, Core, OPEN};
-use refusals::{
-    CONFIG_BUSY, FEW_TAGS, LINK_DOWN, NO_WINDOW, SLOTS_USED, TOO_SHORT, WRONG_BURST, WRONG_DATA,
-};
+use parts::{AREA_SIZE, OPEN, State};
+use refusals::Refusal;
 
-// The refusal number of a read whose lowest free slot is given.
-pub fn read_refusal(s: Settings, c: Core, slot: u32, q: Burst, room: usize) -> u32
-    ensures { (cells : List ℕ) → result ≡ read_number s (core_from c cells) slot q room }
+// The slot of a read: the lowest that is free.
+pub fn read_slot(b: &State, q: Burst, room: usize) -> Result<usize, Refusal>
+    ensures number { (cells : List ℕ) → number_in result ≡ read_refusal (bridge_of cells b.now) q room }
+    ensures slot { (cells : List ℕ) (k : ℕ) → result ≡ Ok k → k ≡ free_slot (bridge_of cells b.now) }
 {
     if room < AREA_SIZE {
-        return TOO_SHORT;
+        return Err(Refusal::TooShort);
     }
     if burst::burst_number(q) != 0 {
-        return WRONG_BURST;
+        return Err(Refusal::WrongBurst);
     }
-    let start = q.start;
-    let windows = s.windows;
-    if no_window(windows, start) {
-        return NO_WINDOW;
+    if no_window(b.settings.windows, q.start) {
+        return Err(Refusal::NoWindow);
     }
-    let registers = c.registers;
-    if !registers.link {
-        return LINK_DOWN;
+    if !b.core.registers.link {
+        return Err(Refusal::LinkDown);
     }
-    let config = c.config;
-    if (config.state == OPEN) & !config.write {
-        return CONFIG_BUSY;
+    if (b.core.config.state == OPEN) & !b.core.config.write {
+        return Err(Refusal::ConfigBusy);
     }
-    if CONFIG_SLOT <= slot {
-        return SLOTS_USED;
+    let Some(slot) = b.free_slot() else {
+        return Err(Refusal::SlotsUsed);
+    };
+    let pieces = burst::piece_count(b.settings.reads, q.start.0, burst::length_of(q));
+    if tags::available(b.core.free) < pieces {
+        return Err(Refusal::FewTags);
     }
-    if tags::available(c.free) < burst::piece_count(s.reads, start.0, burst::length_of(q)) {
-        return FEW_TAGS;
-    }
-    0
+    Ok(slot)
 }
 
-// The refusal number of a write of len bytes.
-pub fn write_refusal(s: Settings, c: Core, q: Burst, len: usize, room: usize) -> u32
-    ensures { (cells : List ℕ) → result ≡ write_number s (core_from c cells) q len room }
+// Whether a write of len bytes may be sent.
+pub fn check_write(b: &State, q: Burst, len: usize, room: usize) -> Result<(), Refusal>
+    ensures { (cells : List ℕ) → number_in result ≡ write_refusal (bridge_of cells b.now) q len room }
 {
     if room < AREA_SIZE {
-        return TOO_SHORT;
+        return Err(Refusal::TooShort);
     }
     if burst::burst_number(q) != 0 {
-        return WRONG_BURST;
+        return Err(Refusal::WrongBurst);
     }
-    let start = q.start;
-    let windows = s.windows;
-    if no_window(windows, start) {
-        return NO_WINDOW;
+    if no_window(b.settings.windows, q.start) {
+        return Err(Refusal::NoWindow);
     }
     if burst::data_number(q, len) != 0 {
-        return WRONG_DATA;
+        return Err(Refusal::WrongData);
     }
-    let registers = c.registers;
-    if !registers.link {
-        return LINK_DOWN;
+    if !b.core.registers.link {
+        return Err(Refusal::LinkDown);
     }
-    0
+    Ok(())
 }
