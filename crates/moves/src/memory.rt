@@ -11,6 +11,7 @@ use parts::{AREA_SIZE, OPEN, State};
 use refusals::Refusal;
 
 // The slot of a read: the lowest that is free.
+#[tactic(auto, unfolding(machine::specs::Memory::read_refusal))]
 pub fn read_slot(b: &State, q: Burst, room: usize) -> Result<usize, Refusal>
     ensures number { (cells : List ℕ) → number_in result ≡ read_refusal (bridge_of cells b.now) q room }
     ensures slot { (cells : List ℕ) (k : ℕ) → result ≡ Ok k → k ≡ free_slot (bridge_of cells b.now) }
@@ -41,6 +42,7 @@ pub fn read_slot(b: &State, q: Burst, room: usize) -> Result<usize, Refusal>
 }
 
 // Whether a write of len bytes may be sent.
+#[tactic(auto, unfolding(machine::specs::Memory::write_refusal))]
 pub fn check_write(b: &State, q: Burst, len: usize, room: usize) -> Result<(), Refusal>
     ensures { (cells : List ℕ) → number_in result ≡ write_refusal (bridge_of cells b.now) q len room }
 {

@@ -46,6 +46,7 @@ pub fn read_turn(
 }
 
 // A slot waits for a burst, which is accepted in this session.
+#[tactic(auto, unfolding(machine::specs::Memory::claimed))]
 pub fn claim(b: &mut State, slot: usize, q: Burst)
     requires { slot < slot_count }
     ensures { (cells : List ℕ) → bridge_of cells b.new ≡ claimed slot q (bridge_of cells b.old) }

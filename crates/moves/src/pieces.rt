@@ -25,6 +25,7 @@ fn close(b: &mut State, store: &mut [u8], tag: u32, k: usize)
 }
 
 // n bytes have come for a tag, the last perhaps.
+#[tactic(auto, unfolding(machine::specs::Completions::advanced))]
 fn advance(b: &mut State, store: &mut [u8], tag: u32, k: usize, n: u32)
     requires { (store_size ≤ length store.old) × ((tag < tag_count) × ((k < slot_count) × ((n ≤ get_or b.old.missing tag 0) × (get_or (places_of b.old.tags) tag 0 + n ≤ slot_size)))) }
     ensures { (cells : List ℕ) → held_of cells b.new store.new ≡ advanced tag k n (held_of cells b.old store.old) }

@@ -20,6 +20,7 @@ pub fn clear_slot(store: &mut [u8], k: usize, n: usize)
 }
 
 // A piece of slot k failed at this place.
+#[tactic(auto, unfolding(machine::specs::Completions::faulted))]
 pub fn fault(b: &mut State, k: usize, place: u32, code: u32)
     requires { k < slot_count }
     ensures { (cells : List ℕ) → bridge_of cells b.new ≡ faulted k place code (bridge_of cells b.old) }
@@ -35,6 +36,7 @@ pub fn fault(b: &mut State, k: usize, place: u32, code: u32)
 }
 
 // A memory read's piece failed, and its decode bit is set.
+#[tactic(auto, unfolding(machine::specs::Completions::failed))]
 pub fn fail(b: &mut State, k: usize, place: u32, why: Cause)
     requires { k < slot_count }
     ensures { (cells : List ℕ) → bridge_of cells b.new ≡ failed k place why (bridge_of cells b.old) }
@@ -44,6 +46,7 @@ pub fn fail(b: &mut State, k: usize, place: u32, why: Cause)
 }
 
 // The read in slot k is finished, and its bytes are zero unless it is OKAY.
+#[tactic(auto, unfolding(machine::specs::Completions::finished))]
 pub fn finish(b: &mut State, store: &mut [u8], k: usize)
     requires { (store_size ≤ length store.old) × (k < slot_count) }
     ensures { (cells : List ℕ) → held_of cells b.new store.new ≡ finished k (held_of cells b.old store.old) }
@@ -60,6 +63,7 @@ pub fn finish(b: &mut State, store: &mut [u8], k: usize)
 }
 
 // A piece of slot k is closed.
+#[tactic(auto, unfolding(machine::specs::Completions::piece_closed))]
 pub fn close_piece(b: &mut State, store: &mut [u8], k: usize)
     requires { (store_size ≤ length store.old) × (k < slot_count) }
     ensures { (cells : List ℕ) → held_of cells b.new store.new ≡ piece_closed k (held_of cells b.old store.old) }
@@ -76,6 +80,7 @@ pub fn close_piece(b: &mut State, store: &mut [u8], k: usize)
 }
 
 // A read that is open in slot k is finished as SLVERR with zero data.
+#[tactic(auto, unfolding(machine::specs::Ticks::drop_slot))]
 pub fn drop_slot(b: &mut State, store: &mut [u8], k: usize)
     requires { (store_size ≤ length store.old) × (k < slot_count) }
     ensures { (cells : List ℕ) → held_of cells b.new store.new ≡ drop_slot (held_of cells b.old store.old) k }

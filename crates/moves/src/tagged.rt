@@ -10,6 +10,7 @@ ghost use Rattle.machine.specs.Code.Tables.{bridge_of};
 use parts::{Pending, State, TagRow};
 
 // The lowest free tag is open for what a request asks for, sent now.
+#[tactic(auto, unfolding(machine::specs::State::opened))]
 pub fn open(b: &mut State, p: Pending)
     requires { lowest tag_count b.old.core.free < tag_count }
     ensures { (cells : List ℕ) → bridge_of cells b.new ≡ opened p (bridge_of cells b.old) }
@@ -28,6 +29,7 @@ pub fn open(b: &mut State, p: Pending)
 }
 
 // A tag is no longer open.
+#[tactic(auto, unfolding(machine::specs::State::shut))]
 pub fn shut(b: &mut State, t: usize)
     requires { t < tag_count }
     ensures { (cells : List ℕ) → bridge_of cells b.new ≡ shut t (bridge_of cells b.old) }
@@ -36,6 +38,7 @@ pub fn shut(b: &mut State, t: usize)
 }
 
 // A tag is free.
+#[tactic(auto, unfolding(machine::specs::State::freed))]
 pub fn free(b: &mut State, tag: u32)
     ensures { (cells : List ℕ) → bridge_of cells b.new ≡ freed tag (bridge_of cells b.old) }
 {
@@ -51,6 +54,7 @@ pub fn lower_after(next: u32, n: u32) -> u32
 }
 
 // n bytes more have come for a tag.
+#[tactic(auto, unfolding(machine::specs::State::counted))]
 pub fn count(b: &mut State, t: usize, n: u32)
     requires { (t < tag_count) × ((n ≤ get_or b.old.missing t 0) × (get_or (places_of b.old.tags) t 0 + n ≤ slot_size)) }
     ensures { (cells : List ℕ) → bridge_of cells b.new ≡ counted t n (bridge_of cells b.old) }

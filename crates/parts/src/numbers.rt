@@ -1,5 +1,5 @@
 // Decisions on numbers: the free slot, the age of a request, what can be taken.
-ghost use Rattle.std.specs.Prelude.{◌≡◌, ◌%◌, ◌+◌, ◌^◌, ◌≤◌, min, ◌&&◌, ◌==◌, map};
+ghost use Rattle.std.specs.Prelude.{◌≡◌, ◌%◌, ◌+◌, ◌^◌, ◌<◌, ◌≤◌, min, ◌&&◌, ◌==◌, IfSome};
 ghost use Rattle.refusals.specs.Refusals.{number_in};
 ghost use Rattle.verdict.specs.Verdict.{is_open};
 ghost use Rattle.parts.specs.Sizes.{slot_count, slot_size};
@@ -61,7 +61,8 @@ pub fn take_refusal(room: usize, found: u32) -> Result<(), Refusal>
 impl State {
     // The lowest free slot.
     pub fn free_slot(&self) -> Option<usize>
-        ensures { slot_or_none result ≡ free_slot_from (states_of self.now.slots) 0 slot_count }
+        ensures slot { slot_or_none result ≡ free_slot_from (states_of self.now.slots) 0 slot_count }
+        ensures bound { IfSome result (λ k. k < slot_count) }
     {
         for k in 0..SLOTS {
             if self.slots[k].state == FREE {

@@ -1,0 +1,7 @@
+use Rattle.machine.specs.Memory.{claimed}
+use Rattle.machine.proofs.Tables.{put_slot}
+use Rattle.moves.proofs.opening.claim.Goals as goal
+
+pub returns : goal.returns
+unfolding claimed
+returns c = λ cells. rw (← c.length_of-n.ensures.0, ← c.piece_count.ensures) (put_slot cells c.args.b.now c.args.slot _)
