@@ -1,6 +1,5 @@
-// The events on lent tables: the missing counts, the table by tag, the table by slot and the cells of the queued messages,
-// with the core by value. A loop over many events lends the same tables to each; the methods of `bridge` unpack a bridge, call
-// one of these and pack it again.
+// The events on a state: a loop over many events lends the same one to each; the methods of `bridge` take and hand back a bridge
+// by value. The cells of the queued messages are lent beside it where they are wanted.
 #![tactic(auto)]
 
 pub mod complete;

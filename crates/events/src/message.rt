@@ -1,36 +1,29 @@
 // Error messages.
 ghost use Rattle.std.specs.Prelude.{cond, List, eqb, ◌≡◌, ℕ};
-ghost use Rattle.address.specs.declared.Settings.{Settings};
 ghost use Rattle.messages.specs.Layout.{entry_of};
 ghost use Rattle.messages.specs.Code.Cells.{cells_after};
 ghost use Rattle.ecam.specs.Code.Struct.{registers_from};
+ghost use Rattle.parts.specs.Code.Struct.{answer_of};
 ghost use Rattle.machine.specs.State.{answered};
 ghost use Rattle.machine.specs.Messages.{message_number, message_step};
-ghost use Rattle.machine.specs.Code.Tables.{fixed, bridge_of};
+ghost use Rattle.machine.specs.Code.Tables.{bridge_of};
 
 use messages::layout::is_error_message;
 use messages::queue::DEPTH;
-use parts::answers::{accepted_as, refuse};
-use parts::{Core, Done};
-use refusals::{LINK_DOWN, MALFORMED, Response};
+use parts::{Accepted, Answer, State};
+use refusals::Refusal;
 
-// A message of any bytes. It is lent the cells of the queue, and no table.
-pub fn message_in(c: Core, cells: &mut [u32; DEPTH], packet: &[u8]) -> Done
-    ensures step { (s : Settings) (m t x : List ℕ) → answered (bridge_of (fixed s cells.new) result.core m t x) result.answer ≡ message_step (bridge_of (fixed s cells.old) c m t x) packet.now }
-    ensures cells { cells.new ≡ cond (eqb (message_number (registers_from c.registers cells.old) packet.now) 0) (cells_after c.registers.errors cells.old (entry_of packet.now)) cells.old }
+// A message of any bytes, with the cells of the queue.
+pub fn message_in(b: &mut State, cells: &mut [u32; DEPTH], packet: &[u8]) -> Answer
+    ensures step { answered (bridge_of cells.new b.new) (answer_of result) ≡ message_step (bridge_of cells.old b.old) packet.now }
+    ensures cells { cells.new ≡ cond (eqb (message_number (registers_from b.old.core.registers cells.old) packet.now) 0) (cells_after b.old.core.registers.errors cells.old (entry_of packet.now)) cells.old }
 {
-    let sound = is_error_message(packet);
-    if !sound {
-        return refuse(MALFORMED, c);
+    if !is_error_message(packet) {
+        return b.core.refuse(Refusal::Malformed);
     }
-    let registers = c.registers;
-    if !registers.link {
-        return refuse(LINK_DOWN, c);
+    if !b.core.registers.link {
+        return b.core.refuse(Refusal::LinkDown);
     }
-    let mut d = c;
-    d.registers = ecam::registers::message(registers, cells, packet);
-    Done {
-        core: d,
-        answer: accepted_as(Response::Nothing, 0, 0, 0),
-    }
+    b.core.registers = ecam::registers::message(b.core.registers, cells, packet);
+    Ok(Accepted::plain())
 }

@@ -1,38 +1,34 @@
 // A completion for a memory read's piece: what the verdict says is done.
-ghost use Rattle.std.specs.Prelude.{◌≡◌, true, ◌+◌, ◌*◌, ◌%◌, ◌≤◌, ◌<◌, length, get_or};
+ghost use Rattle.std.specs.Prelude.{◌≡◌, true, List, ℕ, ◌*◌, ◌%◌, ◌≤◌, ◌<◌, length, get_or};
 ghost use Rattle.parts.specs.Sizes.{tag_count, slot_count, store_size};
-ghost use Rattle.parts.specs.Code.Columns.{place_column};
+ghost use Rattle.parts.specs.Code.Struct.{places_of};
 ghost use Rattle.machine.specs.State.{is_open};
 ghost use Rattle.machine.specs.Completions.{memory_completed};
 ghost use Rattle.machine.specs.Code.Expected.{Fits};
-ghost use Rattle.machine.specs.Code.Tables.{Fixed, held_of};
+ghost use Rattle.machine.specs.Code.Tables.{held_of};
 
-use common::index;
-use moves::pieces::{failed_in, good_in, poisoned_in};
-use parts::{Core, SLOT_CELLS, TAG_CELLS, TAGS};
+use moves::pieces::{failed, good, poisoned};
+use parts::State;
 use tlp::completion::Completion;
 use verdict::Verdict;
 
+#[tactic(auto, unfolding(machine::specs::Completions::memory_completed))]
 pub fn memory_in(
-    c: Core,
-    missing: &mut [u32; TAGS],
-    tags: &mut [u32; TAG_CELLS],
-    slots: &mut [u32; SLOT_CELLS],
+    b: &mut State,
     store: &mut [u8],
     payload: &[u8],
     h: Completion,
     k: usize,
     v: Verdict,
-) -> Core
-    requires { (store_size ≤ length store.old) × ((h.tag < tag_count) × ((k < slot_count) × ((is_open (get_or missing.old h.tag 0) (get_or tags.old (place_column + h.tag) 0) ≡ true) × ((length payload.now ≡ 4 * h.length) × Fits h (get_or missing.old h.tag 0) v)))) }
-    ensures { (s : Fixed) → held_of s result missing.new tags.new slots.new store.new ≡ memory_completed (held_of s c missing.old tags.old slots.old store.old) h.tag k (h.lower % 4) payload.now v }
+)
+    requires { (store_size ≤ length store.old) × ((h.tag < tag_count) × ((k < slot_count) × ((is_open (get_or b.old.missing h.tag 0) (get_or (places_of b.old.tags) h.tag 0) ≡ true) × ((length payload.now ≡ 4 * h.length) × Fits h (get_or b.old.missing h.tag 0) v)))) }
+    ensures { (cells : List ℕ) → held_of cells b.new store.new ≡ memory_completed (held_of cells b.old store.old) h.tag k (h.lower % 4) payload.now v }
 {
-    let tag = h.tag;
-    let skip = index(h.lower % 4);
+    let skip = (h.lower % 4) as usize;
     match v {
-        Verdict::Unexpected => c,
-        Verdict::Good(n) => good_in(c, missing, tags, slots, store, payload, tag, k, skip, n),
-        Verdict::Poisoned(n) => poisoned_in(c, missing, tags, slots, store, tag, k, n),
-        Verdict::Failed(why) => failed_in(c, missing, tags, slots, store, tag, k, why),
+        Verdict::Unexpected => {}
+        Verdict::Good(n) => good(b, store, payload, h.tag, k, skip, n),
+        Verdict::Poisoned(n) => poisoned(b, store, h.tag, k, n),
+        Verdict::Failed(why) => failed(b, store, h.tag, k, why),
     }
 }
