@@ -28,12 +28,12 @@ pub fn link_in(b: &mut State, store: &mut [u8], up: bool) -> Answer
     if store.len() < STORE_SIZE {
         return Err(Refusal::TooShort);
     }
-    if !up & b.core.registers.link {
-        b.missing = [0; TAGS];
-        b.core.lose_link();
-        drop_slots(b, store);
-    } else {
+    if up | !b.core.registers.link {
         b.core.link_to(up);
+        return Ok(Accepted::plain());
     }
+    b.missing = [0; TAGS];
+    b.core.lose_link();
+    drop_slots(b, store);
     Ok(Accepted::plain())
 }

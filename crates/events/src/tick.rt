@@ -26,8 +26,8 @@ fn time_out(b: &mut State, store: &mut [u8], t: usize)
         shut(b, t);
         close_piece(b, store, k);
     } else {
-        shut(b, t);
         b.core.time_out_config();
+        shut(b, t);
     }
 }
 

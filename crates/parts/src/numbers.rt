@@ -19,7 +19,7 @@ pub fn next_tick(x: u32) -> u32
 
 // The counter n ticks later.
 pub fn tick_after(x: u32, n: u32) -> u32
-    ensures { result ≡ (x + n) % 2 ^ 32 }
+    ensures { (result ≡ (x + n) % 2 ^ 32) × (x < 2 ^ 32) }
 {
     x.wrapping_add(n)
 }
