@@ -31,6 +31,10 @@ pub opened_free : (r : Pending) (b c : Bridge) → c ≡ opened r b → c.core.f
 unfolding opened
 opened_free r b c e = ap (λ (x : Bridge). x.core.free) e
 
+pub opened_settings : (r : Pending) (b c : Bridge) → c ≡ opened r b → c.settings ≡ b.settings
+unfolding opened
+opened_settings r b c e = ap (λ (x : Bridge). x.settings) e
+
 pub record Turned (slot : ℕ) (q : Burst) (b₀ b : Bridge) (area₀ area : List ℕ) (at k : ℕ) : Type 0 where
   pub bridge_is : b ≡ read_to slot q b₀ k
   pub at_is : at ≡ length (read_sent slot q b₀ k)

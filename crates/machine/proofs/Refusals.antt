@@ -7,6 +7,9 @@ use native.Mathlib.Omega.{arith}
 use borrow.Author.Tests.{eq-eqb, ne_eqb, ltb-false, leb-false, eqb-true, not-false}
 use lib.ListN.{length}
 use lib.Dec.{eqb}
+use Rattle.refusals.specs.declared.Refusal.{Refusal}
+use Rattle.refusals.specs.declared.Refusal.TheVariants.{Setting, NoWindow, WrongBurst, LinkDown, ConfigBusy, SlotsUsed, FewTags, TooShort, OffsetOver, NotRouted, WrongDevice, Malformed, NotExpected, NotFinished, WrongData}
+use Rattle.refusals.specs.Refusals.{number_of}
 use Rattle.tags.specs.Tags.{available}
 use Rattle.address.specs.Windows.{found_number}
 use Rattle.burst.specs.declared.Burst.{Burst}
@@ -15,6 +18,24 @@ use Rattle.machine.specs.Bridge.{Bridge}
 use Rattle.refusals.specs.declared.Response.TheVariants.{Nothing, Okay}
 use Rattle.machine.specs.State.{tag_count, free_slot, accepted, answered, refused}
 use Rattle.machine.specs.Memory.{filled, window_for, pieces_of, read_number, read_refusal, claimed, read_to, read_sent, read_step, read_area, write_refusal, write_bytes, write_step, write_area}
+
+-- a refusal's number is not 0
+pub not_zero : (r : Refusal) → number_of r ≡ 0 → ⊥
+not_zero Setting e = omega (arith, e)
+not_zero NoWindow e = omega (arith, e)
+not_zero WrongBurst e = omega (arith, e)
+not_zero LinkDown e = omega (arith, e)
+not_zero ConfigBusy e = omega (arith, e)
+not_zero SlotsUsed e = omega (arith, e)
+not_zero FewTags e = omega (arith, e)
+not_zero TooShort e = omega (arith, e)
+not_zero OffsetOver e = omega (arith, e)
+not_zero NotRouted e = omega (arith, e)
+not_zero WrongDevice e = omega (arith, e)
+not_zero Malformed e = omega (arith, e)
+not_zero NotExpected e = omega (arith, e)
+not_zero NotFinished e = omega (arith, e)
+not_zero WrongData e = omega (arith, e)
 
 -- where no number is given, the first test failed, and the rest gives none
 none_given : (t : Bool) (n r : ℕ) → cond t (suc n) r ≡ 0 → (t ≡ false) × (r ≡ 0)
