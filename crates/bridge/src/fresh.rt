@@ -5,24 +5,38 @@ ghost use Rattle.ecam.specs.Registers.{local_read};
 ghost use Rattle.ecam.specs.Code.Struct.{registers_from};
 ghost use Rattle.bridge.specs.View.{Whole, view_of, step_of};
 
-use crate::{Answered, Bridge, Response};
+use crate::{Accepted, Answered, Bridge, Core, Refusal};
 use address::Settings;
 use ecam::registers::Registers;
 use messages::queue::DEPTH;
-use parts::answers::{accepted_as, refusal_of};
-use parts::cores::fresh_core;
-use parts::{SLOT_CELLS, TAG_CELLS, TAGS};
-use refusals::SETTING;
+use parts::{SLOTS, SlotRow, State, TAGS, TagRow};
 
-fn fresh_bridge(s: Settings) -> Bridge
-    ensures { view_of result ≡ fresh_bridge s }
+fn fresh_bridge(settings: Settings) -> Bridge
+    ensures { view_of result ≡ fresh_bridge settings }
 {
+    let tag = TagRow {
+        sent: 0,
+        owner: 0,
+        place: 0,
+        next: 0,
+        kind: 0,
+    };
+    let slot = SlotRow {
+        state: 0,
+        size: 0,
+        pieces: 0,
+        fault: 0,
+        cause: 0,
+        session: 0,
+    };
     Bridge {
-        settings: s,
-        core: fresh_core(),
-        missing: [0; TAGS],
-        tags: [0; TAG_CELLS],
-        slots: [0; SLOT_CELLS],
+        state: State {
+            settings,
+            core: Core::fresh(),
+            missing: [0; TAGS],
+            tags: [tag; TAGS],
+            slots: [slot; SLOTS],
+        },
         cells: [0; DEPTH],
     }
 }
@@ -32,47 +46,37 @@ impl Bridge {
     pub fn new(s: Settings) -> Answered
         ensures { step_of result ≡ new_bridge s }
     {
-        let number = address::settings_number(s);
-        if number == 0 {
-            let bridge = fresh_bridge(s);
+        if address::settings_number(s) != 0 {
             return Answered {
-                bridge: bridge,
-                answer: accepted_as(Response::Nothing, 0, 0, 0),
+                bridge: fresh_bridge(address::example_settings()),
+                answer: Err(Refusal::Setting),
             };
         }
-        let example = address::example_settings();
-        let bridge = fresh_bridge(example);
         Answered {
-            bridge: bridge,
-            answer: refusal_of(SETTING),
+            bridge: fresh_bridge(s),
+            answer: Ok(Accepted::plain()),
         }
     }
 
     // The registers but for the entries of the queue, which stand in `cells`; and of every struct, that its tables have their
     // lengths.
     pub fn registers(self) -> Registers
-        ensures { (result ≡ self.core.registers) × ((registers_from result self.cells ≡ registers_of (view_of self)) × Whole self) }
+        ensures { (result ≡ self.state.core.registers) × ((registers_from result self.cells ≡ registers_of (view_of self)) × Whole self) }
     {
-        let core = self.core;
-        core.registers
+        self.state.core.registers
     }
 
     // What a local word shows.
     pub fn word(self, word: u32) -> u32
         ensures { result ≡ local_read (registers_of (view_of self)) word }
     {
-        let core = self.core;
-        let registers = core.registers;
-        let cells = self.cells;
-        ecam::registers::local_read(registers, &cells, word)
+        ecam::registers::local_read(self.state.core.registers, &self.cells, word)
     }
 
     // The interrupt line.
     pub fn line(self) -> bool
         ensures { result ≡ line_of (view_of self) }
     {
-        let core = self.core;
-        let registers = core.registers;
-        ecam::registers::line(registers)
+        ecam::registers::line(self.state.core.registers)
     }
 }
