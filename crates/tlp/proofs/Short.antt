@@ -46,3 +46,6 @@ of_malformed s r e = by (read_completion (take 12 s)) refl e
     by : (x : Result Completion Refusal) → read_completion (take 12 s) ≡ x → with_payload s x ≡ Err r → r ≡ Malformed
     by (Ok c) f g = payload_refused (eqb (length s) (12 + 4 * c.length)) c r g
     by (Err q) f g = let z : q ≡ r = cc in sym z ∙ read_malformed (take 12 s) q f
+
+pub refused_malformed : (s : List ℕ) (r : Refusal) → completion_of s ≡ Err r → completion_of s ≡ Err Malformed
+refused_malformed s r e = rw (← of_malformed s r e) e
