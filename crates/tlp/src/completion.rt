@@ -29,8 +29,11 @@ impl Completion {
     fn valid_payload(self) -> bool
         ensures { result ≡ valid_payload self }
     {
-        self.payload & (self.status == 0) & (1 <= self.length) & (self.length <= 1024)
-            | !self.payload & (self.length == 0) & !self.poisoned
+        if self.payload {
+            self.status == 0 && 1 <= self.length && self.length <= 1024
+        } else {
+            self.length == 0 && !self.poisoned
+        }
     }
 
     #[tactic(auto, unfolding(crate::specs::Completion::valid_completion))]
@@ -38,13 +41,13 @@ impl Completion {
         ensures { result ≡ valid_completion self }
     {
         self.valid_payload()
-            & (self.completer < 65536)
-            & (self.status < 8)
-            & (1 <= self.count)
-            & (self.count <= 4096)
-            & (self.requester < 65536)
-            & (self.tag < 256)
-            & (self.lower < 128)
+            && self.completer < 65536
+            && self.status < 8
+            && 1 <= self.count
+            && self.count <= 4096
+            && self.requester < 65536
+            && self.tag < 256
+            && self.lower < 128
     }
 
     // The header of a valid completion.
@@ -90,15 +93,14 @@ pub fn write_completion(c: Completion, area: &mut [u8]) -> Result<usize, Refusal
 
 #[tactic(auto, unfolding(crate::specs::Completion::completion_reserved))]
 fn completion_reserved(s: &[u8]) -> bool
-    requires { 12 ≤ length s.now }
     ensures { result ≡ completion_reserved s.now }
 {
-    (s.len() == 12)
-        & ((s[0] == 0x0A) | (s[0] == 0x4A))
-        & (s[1] == 0)
-        & (s[2] < 0x80)
-        & (s[2] % 0x40 < 4)
-        & (s[6] % 32 < 16)
+    s.len() == 12
+        && (s[0] == 0x0A || s[0] == 0x4A)
+        && s[1] == 0
+        && s[2] < 0x80
+        && s[2] % 0x40 < 4
+        && s[6] % 32 < 16
 }
 
 fn completion_in(s: &[u8]) -> Completion
@@ -121,11 +123,11 @@ fn completion_in(s: &[u8]) -> Completion
 }
 
 // The completion whose header the bytes are, all of them.
-#[tactic(auto, using(crate::proofs::Short::read_short), unfolding(crate::specs::Completion::read_completion))]
+#[tactic(auto, unfolding(crate::specs::Completion::completion_reserved, crate::specs::Completion::read_completion))]
 pub fn read_completion(s: &[u8]) -> Result<Completion, Refusal>
     ensures { result ≡ read_completion s.now }
 {
-    if s.len() < 12 || !completion_reserved(s) {
+    if !completion_reserved(s) {
         return Err(Refusal::Malformed);
     }
     let c = completion_in(s);

@@ -22,8 +22,6 @@ pub fn with_payload(room: usize, h: Completion) -> Result<Completion, Refusal>
 pub fn completion_of(packet: &[u8]) -> Result<Completion, Refusal>
     ensures { result ≡ completion_of packet.now }
 {
-    if packet.len() < 12 {
-        return Err(Refusal::Malformed);
-    }
-    with_payload(packet.len(), read_completion(&packet[..12])?)
+    let header = packet.get(..12).ok_or(Refusal::Malformed)?;
+    with_payload(packet.len(), read_completion(header)?)
 }
