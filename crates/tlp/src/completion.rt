@@ -29,11 +29,8 @@ impl Completion {
     fn valid_payload(self) -> bool
         ensures { result ≡ valid_payload self }
     {
-        if self.payload {
-            self.status == 0 && 1 <= self.length && self.length <= 1024
-        } else {
-            self.length == 0 && !self.poisoned
-        }
+        self.payload & (self.status == 0) & (1 <= self.length) & (self.length <= 1024)
+            | !self.payload & (self.length == 0) & !self.poisoned
     }
 
     #[tactic(auto, unfolding(crate::specs::Completion::valid_completion))]
@@ -41,13 +38,13 @@ impl Completion {
         ensures { result ≡ valid_completion self }
     {
         self.valid_payload()
-            && self.completer < 65536
-            && self.status < 8
-            && 1 <= self.count
-            && self.count <= 4096
-            && self.requester < 65536
-            && self.tag < 256
-            && self.lower < 128
+            & (self.completer < 65536)
+            & (self.status < 8)
+            & (1 <= self.count)
+            & (self.count <= 4096)
+            & (self.requester < 65536)
+            & (self.tag < 256)
+            & (self.lower < 128)
     }
 
     // The header of a valid completion.
@@ -96,11 +93,11 @@ fn completion_reserved(s: &[u8]) -> bool
     ensures { result ≡ completion_reserved s.now }
 {
     s.len() == 12
-        && (s[0] == 0x0A || s[0] == 0x4A)
-        && s[1] == 0
-        && s[2] < 0x80
-        && s[2] % 0x40 < 4
-        && s[6] % 32 < 16
+        && ((s[0] == 0x0A) | (s[0] == 0x4A))
+            & (s[1] == 0)
+            & (s[2] < 0x80)
+            & (s[2] % 0x40 < 4)
+            & (s[6] % 32 < 16)
 }
 
 fn completion_in(s: &[u8]) -> Completion

@@ -44,11 +44,11 @@ impl ConfigAddress {
     fn is_valid(self) -> bool
         ensures { result ≡ valid_config self }
     {
-        self.bus < 256
-            && self.device < 32
-            && self.function < 8
-            && self.extended < 16
-            && self.register < 64
+        (self.bus < 256)
+            & (self.device < 32)
+            & (self.function < 8)
+            & (self.extended < 16)
+            & (self.register < 64)
     }
 
     fn bytes(self) -> [u8; 4]
@@ -71,7 +71,7 @@ impl Target {
     {
         match self {
             Target::Memory(a) => a % 4 == 0,
-            Target::Config0(p) | Target::Config1(p) => words == 1 && p.is_valid(),
+            Target::Config0(p) | Target::Config1(p) => (words == 1) & p.is_valid(),
         }
     }
 
@@ -93,21 +93,22 @@ impl Request {
     fn valid_enables(self) -> bool
         ensures { result ≡ valid_enables self.length self.last self.first }
     {
-        self.length == 1 && self.last == 0 || 1 < self.length && self.last != 0 && self.first != 0
+        (self.length == 1) & (self.last == 0)
+            | (1 < self.length) & (self.last != 0) & (self.first != 0)
     }
 
     #[tactic(auto, unfolding(crate::specs::Request::valid_request))]
     fn is_valid(self) -> bool
         ensures { result ≡ valid_request self }
     {
-        1 <= self.length
-            && self.length <= 1024
-            && self.requester < 65536
-            && self.tag < 256
-            && self.last < 16
-            && self.first < 16
-            && self.valid_enables()
-            && self.target.is_valid(self.length)
+        (1 <= self.length)
+            & (self.length <= 1024)
+            & (self.requester < 65536)
+            & (self.tag < 256)
+            & (self.last < 16)
+            & (self.first < 16)
+            & self.valid_enables()
+            & self.target.is_valid(self.length)
     }
 
     // Bytes 0 to 7.
@@ -224,7 +225,7 @@ fn request_in(s: &[u8], target: Target) -> Request
 pub fn read_request(s: &[u8]) -> Result<Request, Refusal>
     ensures { result ≡ read_request s.now }
 {
-    if s.len() < 12 || s[0] >= 0x80 || s[1] != 0 || s[2] >= 4 {
+    if s.len() < 12 || !((s[0] < 0x80) & (s[1] == 0) & (s[2] < 4)) {
         return Err(Refusal::Malformed);
     }
     let q = request_in(s, target_in(s).ok_or(Refusal::Malformed)?);
