@@ -6,9 +6,10 @@ use mathlib.Core.List.{List, [], ◌∷◌}
 use lib.ListN.{length, drop}
 use lib.Dec.{ltb, eqb}
 use borrow.Author.Tests.{ltb-true, ltb-false, eqb-true}
+use Rattle.std.specs.Prelude.{Result, Ok, Err}
+use Rattle.refusals.specs.declared.Refusal.{Refusal}
+use Rattle.tlp.proofs.Short.{refused_malformed}
 use Rattle.tlp.specs.declared.completion.Completion.{Completion}
-use Rattle.tlp.specs.declared.completion.CompletionRead.{CompletionRead}
-use Rattle.tlp.specs.declared.completion.CompletionRead.TheVariants.{Header, Malformed}
 use Rattle.refusals.specs.Table.{refused_by, completion_order}
 use Rattle.machine.specs.Bridge.{Bridge}
 use Rattle.verdict.specs.declared.Verdict.{Verdict}
@@ -55,10 +56,10 @@ module _ (b : Bridge) (c : Completion) (e : is_unexpected (verdict_of b c) ≡ f
 
 module _ (h : Held) (s : List ℕ) where
   -- bridge and store after a completion, by its number
-  abbrev after : CompletionRead → ℕ → Held
+  abbrev after : Result Completion Refusal → ℕ → Held
   after r n = cond (eqb n 0) (completed_by h s r) (held (core_in (refusal_change n h.bridge.core) h.bridge) h.store)
 
-  by_owner : store_size ≤ length h.store → (c : Completion) → completion_of s ≡ Header c → is_unexpected (verdict_of h.bridge c) ≡ false
+  by_owner : store_size ≤ length h.store → (c : Completion) → completion_of s ≡ Ok c → is_unexpected (verdict_of h.bridge c) ≡ false
       → Came h s (expected h c (drop 12 s)) 0
   unfolding expected
   by_owner l c e u =
@@ -68,13 +69,13 @@ module _ (h : Held) (s : List ℕ) where
       (λ z. memory c v l e (verdict_ours b c u) (verdict_open b c u) (ltb-true _ _ z) (sym (verdict_memory b c u z)) u)
       (λ z. config c v l e (verdict_ours b c u) (verdict_open b c u) (ltb-false _ _ z) (sym (verdict_config b c u z)) u)
 
-  by_read : store_size ≤ length h.store → (r : CompletionRead) → completion_of s ≡ r
+  by_read : store_size ≤ length h.store → (r : Result Completion Refusal) → completion_of s ≡ r
       → Came h s (after r (read_refused h.bridge r)) (read_refused h.bridge r)
   unfolding refusal_change
-  by_read l (Header c) e =
-      either (λ (n : ℕ). Came h s (after (Header c) n) n) (is_unexpected (verdict_of h.bridge c)) 13 0
+  by_read l (Ok c) e =
+      either (λ (n : ℕ). Came h s (after (Ok c) n) n) (is_unexpected (verdict_of h.bridge c)) 13 0
       (λ u. lost c l e (unexpected_is (verdict_of h.bridge c) u)) (λ u. by_owner l c e u)
-  by_read l Malformed e = malformed l e
+  by_read l (Err r) e = malformed l (refused_malformed s r e)
 
 pub came_one_way : CameOneWay
 unfolding completed complete_refusal refusal_change
@@ -88,6 +89,6 @@ pub completion_order_lem : CompletionOrder
 unfolding complete_refusal
 completion_order_lem b room s = by (completion_of s)
   where
-    by : (r : CompletionRead) → cond (ltb room store_size) 8 (read_refused b r) ≡ refused_by completion_order (ltb room store_size ∷ is_malformed r ∷ is_not_expected b r ∷ [])
-    by (Header c) = refl
-    by Malformed = refl
+    by : (r : Result Completion Refusal) → cond (ltb room store_size) 8 (read_refused b r) ≡ refused_by completion_order (ltb room store_size ∷ is_malformed r ∷ is_not_expected b r ∷ [])
+    by (Ok c) = refl
+    by (Err r) = refl

@@ -9,9 +9,9 @@ use native.Mathlib.Omega.{arith}
 use lib.ListN.{get_or}
 use lib.Dec.{ltb}
 use borrow.Author.Tests.{lt-ltb, le-ltb}
+use Rattle.std.specs.Prelude.{Result, Ok, Err}
+use Rattle.refusals.specs.declared.Refusal.{Refusal}
 use Rattle.tlp.specs.declared.completion.Completion.{Completion}
-use Rattle.tlp.specs.declared.completion.CompletionRead.{CompletionRead}
-use Rattle.tlp.specs.declared.completion.CompletionRead.TheVariants.{Header, Malformed}
 use Rattle.machine.specs.Bridge.{Bridge}
 use Rattle.machine.specs.State.{slot_at, raise, missing_of, owner_of, place_of, is_open}
 use Rattle.machine.specs.Completions.{store_size, Held, held, verdict_of, completion_of, is_unexpected, read_refused, complete_refusal}
@@ -24,11 +24,11 @@ use Rattle.bridge_laws.proofs.Keeping.{own_kept}
 
 -- ---- what acceptance tells
 
-read_accepted : (b : Bridge) (s : List ℕ) (r : CompletionRead) → completion_of s ≡ r → read_refused b r ≡ 0 → Accepted b s
-read_accepted b s (Header c) e =
+read_accepted : (b : Bridge) (s : List ℕ) (r : Result Completion Refusal) → completion_of s ≡ r → read_refused b r ≡ 0 → Accepted b s
+read_accepted b s (Ok c) e =
     either (λ (n : ℕ). n ≡ 0 → Accepted b s) (is_unexpected (verdict_of b c)) 13 0 (λ u n. absurd (omega arith))
     (λ u n. record { header = c; reads = e; expected = u; opened = verdict_open b c u })
-read_accepted b s Malformed e = λ n. absurd (omega arith)
+read_accepted b s (Err r) e = λ n. absurd (omega arith)
 
 pub accepted_is_open : AcceptedIsOpen
 unfolding complete_refusal
@@ -88,7 +88,7 @@ kept_answer j t h x n p =
 pub finished_stays : FinishedStays
 finished_stays h s j f = by (came_one_way h s)
   where
-    own : (c : Completion) → completion_of s ≡ Header c → is_open (missing_of h.bridge c.tag) (place_of h.bridge c.tag) ≡ true → {x : Held} {n : ℕ} → Came h s x n → AnswerSame j h x
+    own : (c : Completion) → completion_of s ≡ Ok c → is_open (missing_of h.bridge c.tag) (place_of h.bridge c.tag) ≡ true → {x : Held} {n : ℕ} → Came h s x n → AnswerSame j h x
     own c e o {x} p = kept_answer j c.tag h x (f c.tag o) (own_kept h s c e p)
 
     by : {x : Held} {n : ℕ} → Came h s x n → AnswerSame j h x

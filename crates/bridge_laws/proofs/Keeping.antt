@@ -8,8 +8,8 @@ use native.Mathlib.Omega.{arith}
 use lib.ListN.{length, drop, length-take, length-drop}
 use lib.Dec.{eqb}
 use Rattle.common.specs.Decode.{cfg_timeout}
+use Rattle.std.specs.Prelude.{Ok}
 use Rattle.tlp.specs.declared.completion.Completion.{Completion}
-use Rattle.tlp.specs.declared.completion.CompletionRead.TheVariants.{Header}
 use Rattle.verdict.specs.declared.Cause.TheVariants.{Poison, Timeout}
 use Rattle.verdict.specs.declared.Verdict.{Verdict}
 use Rattle.machine.specs.State.{slot_at, with_config, core_in, raised_core, raise, missing_of, owner_of, place_of, next_address, slot_count, counted, shut, freed, slverr}
@@ -67,14 +67,14 @@ module _ (h : Held) (c : Completion) (k : ℕ) (payload : List ℕ) (small : k <
 
 -- ---- any completion
 
-pub own_kept : (h : Held) (s : List ℕ) (c : Completion) → completion_of s ≡ Header c → {x : Held} {n : ℕ} → Came h s x n
+pub own_kept : (h : Held) (s : List ℕ) (c : Completion) → completion_of s ≡ Ok c → {x : Held} {n : ℕ} → Came h s x n
     → Kept (owner_of h.bridge c.tag) c.tag h x
 own_kept h s c e (short l) = kept_same _ _ h
 own_kept h s c e (malformed l f) = kept_same _ _ h
 own_kept h s c e (lost d l f u) = kept_by (raise_only (owner_of h.bridge c.tag) c.tag h.bridge 21)
 own_kept h s c e {x} (memory d v l f r o m z u) =
     let b = h.bridge in
-    let w : Whole s (Header d) = rw f at (read_whole s) in
+    let w : Whole s (Ok d) = rw f at (read_whole s) in
     let q : d ≡ c = cc in
     subst (λ (a : Completion). Kept (owner_of b a.tag) a.tag h x) q
     (memory_kept h d (owner_of b d.tag) (drop 12 s) m l (rw (length-drop 12 s) (omega (arith, w.1))) (open_room _ _ o)

@@ -1,9 +1,9 @@
 -- What the definitions of completions promise together.
-use Rattle.std.specs.Prelude.{ℕ, ◌+◌, ◌-◌, ◌*◌, ◌%◌, ◌≤◌, ◌<◌, ◌≡◌, ◌⊎◌, ◌≢◌, List, [], ◌∷◌, Bool, true, false, cond, length, get_or, drop, eqb, ltb}
+use Rattle.std.specs.Prelude.{ℕ, ◌+◌, ◌-◌, ◌*◌, ◌%◌, ◌≤◌, ◌<◌, ◌≡◌, ◌⊎◌, ◌≢◌, List, [], ◌∷◌, Bool, true, false, cond, length, get_or, drop, eqb, ltb, Result, Ok, Err}
 use Rattle.burst.specs.Words.{lower_address}
+use Rattle.refusals.specs.declared.Refusal.{Refusal}
+use Rattle.refusals.specs.declared.Refusal.TheVariants.{Malformed}
 use Rattle.tlp.specs.declared.completion.Completion.{Completion}
-use Rattle.tlp.specs.declared.completion.CompletionRead.{CompletionRead}
-use Rattle.tlp.specs.declared.completion.CompletionRead.TheVariants.{Header, Malformed}
 use Rattle.refusals.specs.Table.{refused_by, completion_order}
 use Rattle.machine.specs.Bridge.{Bridge}
 use Rattle.verdict.specs.declared.Verdict.{Verdict}
@@ -46,12 +46,12 @@ pub record Kept (k t : ℕ) (h x : Held) : Type 0 where
 abbrev pub OwnSlotOnly : Type 0
 OwnSlotOnly =
     (h : Held) (s : List ℕ) (c : Completion)
-    → completion_of s ≡ Header c
+    → completion_of s ≡ Ok c
     → Kept (owner_of h.bridge c.tag) c.tag h (completed h s)
 
 -- a malformed one changes nothing
 abbrev pub MalformedKeeps : Type 0
-MalformedKeeps = (h : Held) (s : List ℕ) → completion_of s ≡ Malformed → completed h s ≡ h
+MalformedKeeps = (h : Held) (s : List ℕ) → completion_of s ≡ Err Malformed → completed h s ≡ h
 
 -- a refused one sets bit 21 where it is not expected, and changes nothing else
 abbrev pub RefusedKeeps : Type 0
@@ -64,7 +64,7 @@ RefusedKeeps =
 -- an accepted one has a header, and its tag is open
 pub record Accepted (b : Bridge) (s : List ℕ) : Type 0 where
   pub header : Completion
-  pub reads : completion_of s ≡ Header header
+  pub reads : completion_of s ≡ Ok header
   pub expected : is_unexpected (verdict_of b header) ≡ false
   pub opened : is_open (missing_of b header.tag) (place_of b header.tag) ≡ true
 
@@ -132,13 +132,13 @@ CountsDown =
 
 -- ---- the order of its refusals
 
-abbrev pub is_malformed : CompletionRead → Bool
-is_malformed (Header c) = false
-is_malformed Malformed = true
+abbrev pub is_malformed : Result Completion Refusal → Bool
+is_malformed (Ok c) = false
+is_malformed (Err r) = true
 
-abbrev pub is_not_expected : Bridge → CompletionRead → Bool
-is_not_expected b (Header c) = is_unexpected (verdict_of b c)
-is_not_expected b Malformed = false
+abbrev pub is_not_expected : Bridge → Result Completion Refusal → Bool
+is_not_expected b (Ok c) = is_unexpected (verdict_of b c)
+is_not_expected b (Err r) = false
 
 -- 'completion 8, 12, 13': the first number of the table's order whose test holds
 abbrev pub CompletionOrder : Type 0
@@ -157,15 +157,15 @@ Ours b c = c.requester ≡ b.settings.requester
 -- the bridge and store after it, and its number: one case a row, with the tests that lead to it
 pub data Came (h : Held) (s : List ℕ) : Held → ℕ → Type 0 where
   short : length h.store < store_size → Came h s h 8
-  malformed : store_size ≤ length h.store → completion_of s ≡ Malformed → Came h s h 12
+  malformed : store_size ≤ length h.store → completion_of s ≡ Err Malformed → Came h s h 12
   lost : (c : Completion)
       → store_size ≤ length h.store
-      → completion_of s ≡ Header c
+      → completion_of s ≡ Ok c
       → verdict_of h.bridge c ≡ Unexpected
       → Came h s (held (raise 21 h.bridge) h.store) 13
   memory : (c : Completion) (v : Verdict)
       → store_size ≤ length h.store
-      → completion_of s ≡ Header c
+      → completion_of s ≡ Ok c
       → Ours h.bridge c
       → is_open (missing_of h.bridge c.tag) (place_of h.bridge c.tag) ≡ true
       → owner_of h.bridge c.tag < 8
@@ -174,7 +174,7 @@ pub data Came (h : Held) (s : List ℕ) : Held → ℕ → Type 0 where
       → Came h s (memory_completed h c.tag (owner_of h.bridge c.tag) (c.lower % 4) (drop 12 s) v) 0
   config : (c : Completion) (v : Verdict)
       → store_size ≤ length h.store
-      → completion_of s ≡ Header c
+      → completion_of s ≡ Ok c
       → Ours h.bridge c
       → is_open (missing_of h.bridge c.tag) (place_of h.bridge c.tag) ≡ true
       → 8 ≤ owner_of h.bridge c.tag

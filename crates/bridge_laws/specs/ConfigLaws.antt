@@ -1,9 +1,8 @@
 -- What is proved of a fresh bridge, of configuration accesses and of taking an answer, for every bridge and all arguments.
-use Rattle.std.specs.Prelude.{◌≡◌, ◌≢◌, List, [], ◌++◌, true, false, cond, ℕ, suc, ◌+◌, ◌*◌, ◌^◌, ◌<◌, length, get_or, take, eqb}
+use Rattle.std.specs.Prelude.{◌≡◌, ◌≢◌, List, [], ◌++◌, true, false, cond, ℕ, suc, ◌+◌, ◌*◌, ◌^◌, ◌<◌, length, get_or, take, eqb, Ok}
 use Rattle.bits.specs.Bits.{clear_bit}
 use Rattle.tags.specs.Tags.{lowest, available}
 use Rattle.tlp.specs.declared.request.Request.{Request}
-use Rattle.tlp.specs.declared.request.RequestRead.TheVariants.{Header}
 use Rattle.tlp.specs.Request.{request_bytes, read_request}
 use Rattle.address.specs.declared.Settings.{Settings}
 use Rattle.address.specs.Settings.{settings_number}
@@ -143,7 +142,7 @@ request_of b a = routed_request (route_of b a) a b.settings.requester (lowest ta
 pub record Packet (b : Bridge) (a : Access) : Type 0 where
   pub bytes : config_bytes b a ≡ request_bytes (request_of b a) ++ payload_of a.write a.word
   pub size : length (config_bytes b a) ≡ cond a.write 16 12
-  pub header : read_request (take 12 (config_bytes b a)) ≡ Header (request_of b a)
+  pub header : read_request (take 12 (config_bytes b a)) ≡ Ok (request_of b a)
 
 abbrev pub RoutedPacket : Type 0
 RoutedPacket = (b : Bridge) (a : Access) (room : ℕ) → Routed b a room → Packet b a

@@ -1,5 +1,5 @@
 -- What holds of memory reads and writes.
-use Rattle.std.specs.Prelude.{◌≡◌, ◌≢◌, Bool, true, false, cond, ◌&&◌, ℕ, ◌+◌, ◌-◌, ◌*◌, ◌/◌, ◌%◌, ◌^◌, ◌≤◌, ◌<◌, length, get_or, take, drop, ltb, leb, eqb}
+use Rattle.std.specs.Prelude.{◌≡◌, ◌≢◌, Bool, true, false, cond, ◌&&◌, ℕ, ◌+◌, ◌-◌, ◌*◌, ◌/◌, ◌%◌, ◌^◌, ◌≤◌, ◌<◌, length, get_or, take, drop, ltb, leb, eqb, Ok}
 use mathlib.Core.List.{List, ◌++◌, flat_map}
 use Rattle.bits.specs.Bits.{is_set}
 use Rattle.tags.specs.Tags.{free_tags, without, lowest_few}
@@ -7,7 +7,6 @@ use Rattle.tags.specs.Laws.{FreeTag}
 use Rattle.tlp.specs.declared.request.Target.{Target}
 use Rattle.tlp.specs.declared.request.Target.TheVariants.{Memory, Config0, Config1}
 use Rattle.tlp.specs.declared.request.Request.{Request}
-use Rattle.tlp.specs.declared.request.RequestRead.TheVariants.{Header}
 use Rattle.tlp.specs.Request.{request_bytes, read_request}
 use Rattle.tlp.specs.Laws.{ValidRequest}
 use Rattle.address.specs.declared.Settings.{Settings}
@@ -109,7 +108,7 @@ pub record ReadSends (b : Bridge) (q : Burst) : Type 0 where
   pub sent :
       read_bytes b q ≡ flat_map (λ (k : ℕ). request_bytes (read_of b q k)) (addresses 0 (pieces_of b.settings.reads q))
   pub back :
-      (k : ℕ) → k < pieces_of b.settings.reads q → read_request (request_bytes (read_of b q k)) ≡ Header (read_of b q k)
+      (k : ℕ) → k < pieces_of b.settings.reads q → read_request (request_bytes (read_of b q k)) ≡ Ok (read_of b q k)
   pub free : (k : ℕ) → k < pieces_of b.settings.reads q → FreeTag tag_count b.core.free (tag_of b k)
   pub rise : (i j : ℕ) → i < j → j < pieces_of b.settings.reads q → tag_of b i < tag_of b j
 
@@ -184,7 +183,7 @@ pub record WriteSends (s : Settings) (q : Burst) (bytes : List ℕ) (room : ℕ)
   pub sent :
       write_bytes s q bytes room
       ≡ flat_map (λ (k : ℕ). request_bytes (write_of s q k) ++ payload_of s q bytes k) (addresses 0 (pieces_of s.writes q))
-  pub back : (k : ℕ) → k < pieces_of s.writes q → read_request (request_bytes (write_of s q k)) ≡ Header (write_of s q k)
+  pub back : (k : ℕ) → k < pieces_of s.writes q → read_request (request_bytes (write_of s q k)) ≡ Ok (write_of s q k)
   pub carried :
       (k : ℕ) → k < pieces_of s.writes q
       → (x : ℕ) → (piece_of s.writes q k).first ≤ x

@@ -10,9 +10,10 @@ use lib.ListN.{length, take}
 use lib.Dec.{ltb, leb, eqb}
 use borrow.Author.Tests.{leb-true, eqb-true, not-true}
 use Rattle.common.proofs.Tests.{row, and_right, or_either}
+use Rattle.std.specs.Prelude.{Result, Ok, Err}
+use Rattle.refusals.specs.declared.Refusal.{Refusal}
+use Rattle.refusals.specs.declared.Refusal.TheVariants.{Malformed}
 use Rattle.tlp.specs.declared.completion.Completion.{Completion}
-use Rattle.tlp.specs.declared.completion.CompletionRead.{CompletionRead}
-use Rattle.tlp.specs.declared.completion.CompletionRead.TheVariants.{Header, Malformed}
 use Rattle.tlp.specs.Completion.{valid_completion, completion_in, completion_reserved, accept_completion, read_completion}
 use Rattle.tlp.proofs.Ranges.{completion_ranges}
 use Rattle.verdict.specs.declared.Verdict.TheVariants.{Unexpected, Good, Poisoned, Failed}
@@ -70,25 +71,25 @@ verdict_fits c missing next v =
     judged c missing next v (eqb c.status 0) (in_order c missing next) (eqb c.status 2) refl
 
 -- what the reader hands back is valid
-accepted_valid : (d c : Completion) (t : Bool) → valid_completion d ≡ t → cond t (Header d) Malformed ≡ Header c → valid_completion c ≡ true
+accepted_valid : (d c : Completion) (t : Bool) → valid_completion d ≡ t → cond t (Ok d) (Err Malformed) ≡ Ok c → valid_completion c ≡ true
 accepted_valid d c true v e = let f : d ≡ c = cc in rw f at v
 accepted_valid d c false v e = let z : ◌≡◌ {A = ℕ} 0 1 = cc in absurd (omega arith)
 
-read_valid_by : (s : List ℕ) (c : Completion) (t : Bool) → cond t (accept_completion (completion_in s)) Malformed ≡ Header c → valid_completion c ≡ true
+read_valid_by : (s : List ℕ) (c : Completion) (t : Bool) → cond t (accept_completion (completion_in s)) (Err Malformed) ≡ Ok c → valid_completion c ≡ true
 read_valid_by s c true e = accepted_valid (completion_in s) c (valid_completion (completion_in s)) refl e
 read_valid_by s c false e = let z : ◌≡◌ {A = ℕ} 0 1 = cc in absurd (omega arith)
 
-read_valid : (s : List ℕ) (c : Completion) → read_completion s ≡ Header c → valid_completion c ≡ true
+read_valid : (s : List ℕ) (c : Completion) → read_completion s ≡ Ok c → valid_completion c ≡ true
 unfolding read_completion
 read_valid s c e = read_valid_by s c (completion_reserved s) e
 
-paid : (s : List ℕ) (c : Completion) → valid_completion c ≡ true → (t : Bool) → eqb (length s) (12 + 4 * c.length) ≡ t → Whole s (cond t (Header c) Malformed)
+paid : (s : List ℕ) (c : Completion) → valid_completion c ≡ true → (t : Bool) → eqb (length s) (12 + 4 * c.length) ≡ t → Whole s (cond t (Ok c) (Err Malformed))
 paid s c v true e = (v, eqb-true _ _ e)
 paid s c v false e = tt
 
-whole_by : (s : List ℕ) (r : CompletionRead) → ((c : Completion) → r ≡ Header c → valid_completion c ≡ true) → Whole s (with_payload s r)
-whole_by s (Header c) f = paid s c (f c refl) (eqb (length s) (12 + 4 * c.length)) refl
-whole_by s Malformed f = tt
+whole_by : (s : List ℕ) (r : Result Completion Refusal) → ((c : Completion) → r ≡ Ok c → valid_completion c ≡ true) → Whole s (with_payload s r)
+whole_by s (Ok c) f = paid s c (f c refl) (eqb (length s) (12 + 4 * c.length)) refl
+whole_by s (Err r) f = tt
 
 pub read_whole : ReadWhole
 unfolding completion_of

@@ -1,10 +1,9 @@
 -- Completions (01, 'Completions'): the bridge and the store that is lent to it, together. The configuration slot's answer
 -- is defined in `parts`, a packet's bytes in `tlp`, and both are passed on.
-use Rattle.std.specs.Prelude.{ℕ, ◌+◌, ◌-◌, ◌*◌, ◌%◌, List, cond, ◌&&◌, length, drop, ltb, leb, eqb}
+use Rattle.std.specs.Prelude.{ℕ, ◌+◌, ◌-◌, ◌*◌, ◌%◌, List, cond, ◌&&◌, length, drop, ltb, leb, eqb, Result, Ok, Err}
 use Rattle.std.proofs.Math.Seq.{paste}
+use Rattle.refusals.specs.declared.Refusal.{Refusal}
 use Rattle.tlp.specs.declared.completion.Completion.{Completion}
-use Rattle.tlp.specs.declared.completion.CompletionRead.{CompletionRead}
-use Rattle.tlp.specs.declared.completion.CompletionRead.TheVariants.{Header, Malformed}
 use Rattle.refusals.specs.Table.{too_short, malformed}
 use Rattle.verdict.specs.declared.Cause.{Cause}
 use Rattle.verdict.specs.declared.Cause.TheVariants.{Poison}
@@ -93,9 +92,9 @@ verdict_of b c =
     (config_verdict c (is_write b c.tag)))
     Unexpected
 
-abbrev pub read_refused : Bridge → CompletionRead → ℕ
-read_refused b (Header c) = verdict_number (verdict_of b c)
-read_refused b Malformed = malformed
+abbrev pub read_refused : Bridge → Result Completion Refusal → ℕ
+read_refused b (Ok c) = verdict_number (verdict_of b c)
+read_refused b (Err r) = malformed
 
 -- 'completion 8, 12, 13'
 unfoldable pub complete_refusal : Bridge → ℕ → List ℕ → ℕ
@@ -107,9 +106,9 @@ expected h c payload =
     (memory_completed h c.tag (owner_of h.bridge c.tag) (c.lower % 4) payload (verdict_of h.bridge c))
     (held (config_completed h.bridge c.tag payload (verdict_of h.bridge c)) h.store)
 
-abbrev pub completed_by : Held → List ℕ → CompletionRead → Held
-completed_by h s (Header c) = expected h c (drop 12 s)
-completed_by h s Malformed = h
+abbrev pub completed_by : Held → List ℕ → Result Completion Refusal → Held
+completed_by h s (Ok c) = expected h c (drop 12 s)
+completed_by h s (Err r) = h
 
 -- the bridge and the store after a completion, of any bytes; 13 sets bit 21
 unfoldable pub completed : Held → List ℕ → Held

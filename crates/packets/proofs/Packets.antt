@@ -9,7 +9,7 @@ use borrow.Author.Tests.{le-ltb, le-leb, lt-leb}
 use lib.ListN.{length, take, drop, length-append, length-drop}
 use lib.Dec.{ltb}
 use lib.Seq.{length-take-le, paste, paste-zero, take-paste, drop-paste, take-length, take-append_seam, drop-append-add, drop-drop}
-use Rattle.tlp.specs.declared.Written.{Written}
+use Rattle.std.specs.Result.{result_unwrap_or}
 use Rattle.tlp.specs.declared.request.Target.{Target}
 use Rattle.tlp.specs.declared.request.Target.TheVariants.{Memory, Config0, Config1}
 use Rattle.tlp.specs.declared.request.Request.{Request}
@@ -80,27 +80,27 @@ abbrev pub Headed : Request → ℕ → List ℕ → List ℕ → Type 0
 Headed r n area after =
     (take n after ≡ packet r []) × ((n ≡ length (packet r [])) × ((n ≤ 16) × (after ≡ filled (packet r []) area)))
 
-headed_by : (r : Request) (area : List ℕ) (w : Written) (after : List ℕ) (x : Bool) → valid_request r ≡ x → length area ≡ 16
-    → w ≡ write_request r (length area) → after ≡ area_after_request r area → Headed r w.length area after
+headed_by : (r : Request) (area after : List ℕ) (x : Bool) → valid_request r ≡ x → length area ≡ 16
+    → after ≡ area_after_request r area → Headed r (result_unwrap_or (write_request r (length area)) 0) area after
 unfolding write_header area_after
-headed_by r area w after true e k p q =
+headed_by r area after true e k q =
     let h : 16 ≤ length area = omega arith in
-    let n : w.length ≡ length (request_bytes r) = ap (λ (x : Written). x.length) p ∙ rw (le-ltb _ _ h, e) in
+    let n : result_unwrap_or (write_request r (length area)) 0 ≡ length (request_bytes r) = rw (le-ltb _ _ h, e) in
     let a : after ≡ request_bytes r ++ drop (length (request_bytes r)) area = q ∙ rw (le-ltb _ _ h, e) in
-    let t : take w.length after ≡ request_bytes r = rw (n, a) (take-append_seam (request_bytes r) (drop (length (request_bytes r)) area)) in
+    let t : take (result_unwrap_or (write_request r (length area)) 0) after ≡ request_bytes r = rw (n, a) (take-append_seam (request_bytes r) (drop (length (request_bytes r)) area)) in
     let o = header_only r e in
     let s = header_short r in
-    (t ∙ sym o, (n ∙ ap length (sym o), (omega arith, a ∙ ap (λ (s : List ℕ). filled s area) (sym o))))
-headed_by r area w after false e k p q =
+    (t ∙ sym o, (n ∙ ap length (sym o), (omega (arith, n), a ∙ ap (λ (s : List ℕ). filled s area) (sym o))))
+headed_by r area after false e k q =
     let h : 16 ≤ length area = omega arith in
-    let n : w.length ≡ 0 = ap (λ (x : Written). x.length) p ∙ rw (le-ltb _ _ h, e) in
+    let n : result_unwrap_or (write_request r (length area)) 0 ≡ 0 = rw (le-ltb _ _ h, e) in
     let a : after ≡ area = q ∙ rw (le-ltb _ _ h, e) in
     let o = packet_none r [] e in
-    (rw (n, o), (rw (n, o), (omega arith, a ∙ ap (λ (s : List ℕ). filled s area) (sym o))))
+    (rw (n, o), (rw (n, o), (omega (arith, n), a ∙ ap (λ (s : List ℕ). filled s area) (sym o))))
 
-pub headed : (r : Request) (area : List ℕ) (w : Written) (after : List ℕ) → length area ≡ 16
-    → w ≡ write_request r (length area) → after ≡ area_after_request r area → Headed r w.length area after
-headed r area w after k p q = headed_by r area w after (valid_request r) refl k p q
+pub headed : (r : Request) (area after : List ℕ) → length area ≡ 16
+    → after ≡ area_after_request r area → Headed r (result_unwrap_or (write_request r (length area)) 0) area after
+headed r area after k q = headed_by r area after (valid_request r) refl k q
 
 -- ---- areas
 

@@ -92,11 +92,8 @@ pub fn head_of(q: Request) -> Head
     ensures { (take result.length result.bytes ≡ packet q []) × ((result.length ≡ length (packet q [])) × ((result.length ≤ 16) × (result.bytes ≡ filled (packet q []) (replicate 16 0)))) }
 {
     let mut bytes = [0u8; 16];
-    let w = write_request(q, &mut bytes);
-    Head {
-        bytes: bytes,
-        length: w.length,
-    }
+    let length = write_request(q, &mut bytes).unwrap_or(0);
+    Head { bytes, length }
 }
 
 // The packet of n bytes from a place of the data on, which go to address a, and where the next one goes. One that the area

@@ -1,13 +1,19 @@
 -- Laws of a header kind that follow from its two round trips, and steps that both kinds take.
-use mathlib.Core.Path.{◌≡◌, sym, ap, ◌∙◌}
-use mathlib.Core.Bool.{Bool, true, false, cond}
-use mathlib.Core.List.{List, ◌∷◌}
+use mathlib.Core.Path.{◌≡◌, refl, sym, ap, ◌∙◌}
+use mathlib.Core.Bool.{Bool, true, false, cond, not}
+use mathlib.Core.List.{List, [], ◌∷◌}
 use Prim.Native.Nat.{ℕ, ◌%◌, ◌≤◌, ◌<◌}
 use native.Mathlib.Decide.{ℕ_discrete}
 use native.Mathlib.Nat.{mod_self, mod-eq_of_lt}
 use native.Mathlib.Omega.{arith}
 use borrow.Author.Tests.{le-ltb, eq-eqb, ne_eqb}
-use Rattle.tlp.specs.Bytes.{or_full, write_header}
+use lib.Dec.{ltb}
+use lib.ListN.{length}
+use Rattle.std.specs.Prelude.{Ok, Err}
+use Rattle.refusals.specs.declared.Refusal.TheVariants.{TooShort, Malformed}
+use Rattle.refusals.specs.Table.{refused_by, header_order}
+use Rattle.refusals.specs.Refusals.{number_in}
+use Rattle.tlp.specs.Bytes.{or_full, write_header, write_refusal}
 use Rattle.tlp.specs.Laws.{ReadsBack, WritesBack, ReadsExactly}
 
 pub no_path : {A : Type 0} → ◌≡◌ {A = ℕ} 0 1 → A
@@ -16,7 +22,16 @@ no_path e = absurd (omega arith)
 pub cell : {x y : ℕ} {xs ys : List ℕ} → x ≡ y → xs ≡ ys → (x ∷ xs) ≡ (y ∷ ys)
 cell e f = rw (e, f)
 
-pub writes : (room : ℕ) (valid : Bool) (header : List ℕ) → 16 ≤ room → (write_header room valid header).number ≡ cond valid 0 12
+pub in_order : (room : ℕ) (valid : Bool) (header : List ℕ) → number_in (write_header room valid header) ≡ write_refusal room valid
+unfolding write_header
+in_order room valid header = by (ltb room 16) valid
+  where
+    by : (short valid : Bool) → number_in (cond short (Err TooShort) (cond valid (Ok (length header)) (Err Malformed))) ≡ refused_by header_order (short ∷ not valid ∷ [])
+    by true valid = refl
+    by false true = refl
+    by false false = refl
+
+pub writes : (room : ℕ) (valid : Bool) (header : List ℕ) → 16 ≤ room → number_in (write_header room valid header) ≡ cond valid 0 12
 unfolding write_header
 writes room true header h = rw (le-ltb room 16 h)
 writes room false header h = rw (le-ltb room 16 h)

@@ -12,7 +12,8 @@ use borrow.Author.Tests.{lt-ltb, le-leb, lt-leb, leb-true, leb-false, eqb-true, 
 use Rattle.common.proofs.Tests.{row, holds, or_either}
 use Rattle.common.proofs.Cells.{cells_all}
 use Rattle.tlp.specs.declared.completion.Completion.{Completion}
-use Rattle.tlp.specs.declared.completion.CompletionRead.TheVariants.{Header, Malformed}
+use Rattle.std.specs.Prelude.{Ok, Err}
+use Rattle.refusals.specs.declared.Refusal.TheVariants.{Malformed}
 use Rattle.tlp.specs.Bytes.{byte, flag}
 use Rattle.tlp.specs.Completion.{valid_payload, valid_completion, completion_bytes, payload_length, completion_in, completion_reserved, accept_completion, read_completion}
 use Rattle.tlp.specs.Laws.{Bytes}
@@ -103,7 +104,7 @@ module _ (c : Completion) (g : CompletionRanges c) where
       let r : c.requester / 256 * 256 + c.requester % 256 ≡ c.requester = omega arith in
       rw (kind_back, p, l, d, s, n, r)
 
-pub completion_reads_back : (c : Completion) → valid_completion c ≡ true → read_completion (completion_bytes c) ≡ Header c
+pub completion_reads_back : (c : Completion) → valid_completion c ≡ true → read_completion (completion_bytes c) ≡ Ok c
 unfolding read_completion
 completion_reads_back c e =
     let g = completion_ranges c e in
@@ -114,15 +115,15 @@ record Accepted (s : List ℕ) (c : Completion) : Type 0 where
   is : completion_in s ≡ c
   valid : valid_completion c ≡ true
 
-accepted_valid : (s : List ℕ) (c : Completion) (b : Bool) → completion_reserved s ≡ true → valid_completion (completion_in s) ≡ b → cond b (Header (completion_in s)) Malformed ≡ Header c → Accepted s c
+accepted_valid : (s : List ℕ) (c : Completion) (b : Bool) → completion_reserved s ≡ true → valid_completion (completion_in s) ≡ b → cond b (Ok (completion_in s)) (Err Malformed) ≡ Ok c → Accepted s c
 accepted_valid s c true r v e = let i : completion_in s ≡ c = cc in record { reserved = r; is = i; valid = rw i at v }
 accepted_valid s c false r v e = no_path (cc)
 
-accepted_reserved : (s : List ℕ) (c : Completion) (b : Bool) → completion_reserved s ≡ b → cond b (accept_completion (completion_in s)) Malformed ≡ Header c → Accepted s c
+accepted_reserved : (s : List ℕ) (c : Completion) (b : Bool) → completion_reserved s ≡ b → cond b (accept_completion (completion_in s)) (Err Malformed) ≡ Ok c → Accepted s c
 accepted_reserved s c true r e = accepted_valid s c (valid_completion (completion_in s)) r refl e
 accepted_reserved s c false r e = no_path (cc)
 
-accepted : (s : List ℕ) (c : Completion) → read_completion s ≡ Header c → Accepted s c
+accepted : (s : List ℕ) (c : Completion) → read_completion s ≡ Ok c → Accepted s c
 unfolding read_completion
 accepted s c e = accepted_reserved s c (completion_reserved s) refl e
 
@@ -144,7 +145,7 @@ length_there : (p : Bool) (field : ℕ) → field < 1024 → payload_length p fi
 length_there true field h = full_there 1024 field h
 length_there false field h = mod-eq_of_lt h
 
-pub completion_writes_back : (s : List ℕ) (c : Completion) → Bytes s → read_completion s ≡ Header c → (valid_completion c ≡ true) × (completion_bytes c ≡ s)
+pub completion_writes_back : (s : List ℕ) (c : Completion) → Bytes s → read_completion s ≡ Ok c → (valid_completion c ≡ true) × (completion_bytes c ≡ s)
 unfolding completion_reserved completion_bytes
 completion_writes_back s c b e =
     let a = accepted s c e in

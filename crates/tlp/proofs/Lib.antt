@@ -4,6 +4,5 @@ pub mod RequestTrip
 pub mod CompletionTrip
 pub mod Codec
 pub mod Reading
-pub mod Writing
 pub mod Ranges
 pub mod Short

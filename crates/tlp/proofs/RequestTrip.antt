@@ -14,13 +14,10 @@ use Rattle.tlp.specs.declared.request.ConfigAddress.{ConfigAddress}
 use Rattle.tlp.specs.declared.request.Target.{Target}
 use Rattle.tlp.specs.declared.request.Target.TheVariants.{Memory, Config0, Config1}
 use Rattle.tlp.specs.declared.request.Request.{Request}
-use Rattle.tlp.specs.declared.request.Format.{Format}
-use Rattle.tlp.specs.declared.request.Format.TheVariants.{Memory3, Memory4, Type0, Type1, Other}
-use Rattle.tlp.specs.declared.request.TargetRead.{TargetRead}
-use Rattle.tlp.specs.declared.request.TargetRead.TheVariants.{At, Wrong}
-use Rattle.tlp.specs.declared.request.RequestRead.TheVariants.{Header, Malformed}
+use Rattle.std.specs.Prelude.{Option, Some, None, Ok, Err}
+use Rattle.refusals.specs.declared.Refusal.TheVariants.{Malformed}
 use Rattle.tlp.specs.Bytes.{bytes, byte, number}
-use Rattle.tlp.specs.Request.{valid_config, valid_target, valid_request, format_type, config_bytes, target_bytes, request_bytes, format_of, config_in, target_in, request_in, request_reserved, read_with, read_request}
+use Rattle.tlp.specs.Request.{Format, Memory3, Memory4, Type0, Type1, Other, valid_config, valid_target, valid_request, format_type, config_bytes, target_bytes, request_bytes, format_of, config_in, target_in, request_in, request_reserved, read_with, read_request}
 use Rattle.tlp.specs.Laws.{Bytes, Address, ValidRequest}
 use Rattle.tlp.proofs.Ranges.{ConfigRanges, config_ranges, RequestRanges, request_ranges}
 use Rattle.tlp.proofs.Reading.{read_at_lem}
@@ -75,18 +72,18 @@ module _ (c d e f g h i : ℕ) where
   laid k tail = k ∷ c ∷ d ∷ e ∷ f ∷ g ∷ h ∷ i ∷ tail
 
   memory_back : (a : ℕ) (b : Bool) → ltb a (2 ^ 32) ≡ b → a < 2 ^ 64
-      → (target_in (format_of (cond b 0x00 0x20 % 0x40)) (laid (cond b 0x00 0x20) (cond b (bytes 4 a) (bytes 8 a))) ≡ At (Memory a))
-      × (target_in (format_of (cond b 0x40 0x60 % 0x40)) (laid (cond b 0x40 0x60) (cond b (bytes 4 a) (bytes 8 a))) ≡ At (Memory a))
+      → (target_in (format_of (cond b 0x00 0x20 % 0x40)) (laid (cond b 0x00 0x20) (cond b (bytes 4 a) (bytes 8 a))) ≡ Some (Memory a))
+      × (target_in (format_of (cond b 0x40 0x60 % 0x40)) (laid (cond b 0x40 0x60) (cond b (bytes 4 a) (bytes 8 a))) ≡ Some (Memory a))
   unfolding target_in format_of
   memory_back a true t l =
-      let n = ap (λ (x : ℕ). At (Memory x)) (address_back 4 a (ltb-true _ _ t)) in (n, n)
+      let n = ap (λ (x : ℕ). Some (Memory x)) (address_back 4 a (ltb-true _ _ t)) in (n, n)
   memory_back a false t l =
       let n = address_back 8 a l in
       let m : 2 ^ 32 ≤ number (bytes 8 a) 0 8 = rw n (ltb-false a (2 ^ 32) t) in
-      let q = ap (λ (x : ℕ). At (Memory x)) n in
+      let q = ap (λ (x : ℕ). Some (Memory x)) n in
       (rw (le-leb _ _ m) q, rw (le-leb _ _ m) q)
 
-  target_back : (w : Bool) (t : Target) (words : ℕ) → valid_target words t ≡ true → Address t → target_in (format_of (format_type w t % 0x40)) (laid (format_type w t) (target_bytes t)) ≡ At t
+  target_back : (w : Bool) (t : Target) (words : ℕ) → valid_target words t ≡ true → Address t → target_in (format_of (format_type w t % 0x40)) (laid (format_type w t) (target_bytes t)) ≡ Some t
   unfolding format_type target_bytes target_in format_of valid_target
   target_back false (Memory a) words v l = (memory_back a (ltb a (2 ^ 32)) refl l).0
   target_back true (Memory a) words v l = (memory_back a (ltb a (2 ^ 32)) refl l).1
@@ -112,7 +109,7 @@ module _ (r : Request) (g : RequestRanges r) where
       let f : (r.last * 16 + r.first) % 16 ≡ r.first = omega arith in
       rw (write_back, n, q, l, f)
 
-pub request_reads_back : (r : Request) → ValidRequest r → read_request (request_bytes r) ≡ Header r
+pub request_reads_back : (r : Request) → ValidRequest r → read_request (request_bytes r) ≡ Ok r
 unfolding request_bytes
 request_reads_back r v =
     let g = request_ranges r v.0 in
@@ -125,26 +122,26 @@ request_reads_back r v =
 
 record Accepted (s : List ℕ) (r : Request) : Type 0 where
   reserved : request_reserved s ≡ true
-  target : target_in (format_of (byte s 0 % 0x40)) s ≡ At r.target
+  target : target_in (format_of (byte s 0 % 0x40)) s ≡ Some r.target
   is : request_in s r.target ≡ r
   valid : valid_request r ≡ true
 
-accepted_valid : (s : List ℕ) (r : Request) (t : Target) (b : Bool) → request_reserved s ≡ true → target_in (format_of (byte s 0 % 0x40)) s ≡ At t → valid_request (request_in s t) ≡ b → cond b (Header (request_in s t)) Malformed ≡ Header r → Accepted s r
+accepted_valid : (s : List ℕ) (r : Request) (t : Target) (b : Bool) → request_reserved s ≡ true → target_in (format_of (byte s 0 % 0x40)) s ≡ Some t → valid_request (request_in s t) ≡ b → cond b (Ok (request_in s t)) (Err Malformed) ≡ Ok r → Accepted s r
 accepted_valid s r t true z f v e =
     let i : request_in s t ≡ r = cc in
     let j : t ≡ r.target = ap (λ (q : Request). q.target) i in
-    record { reserved = z; target = f ∙ ap At j; is = ap (λ (x : Target). request_in s x) (sym j) ∙ i; valid = rw i at v }
+    record { reserved = z; target = f ∙ ap Some j; is = ap (λ (x : Target). request_in s x) (sym j) ∙ i; valid = rw i at v }
 accepted_valid s r t false z f v e = no_path (cc)
 
-accepted_target : (s : List ℕ) (r : Request) (x : TargetRead) → request_reserved s ≡ true → target_in (format_of (byte s 0 % 0x40)) s ≡ x → read_with s x ≡ Header r → Accepted s r
-accepted_target s r (At t) z f e = accepted_valid s r t (valid_request (request_in s t)) z f refl e
-accepted_target s r Wrong z f e = no_path (cc)
+accepted_target : (s : List ℕ) (r : Request) (x : Option Target) → request_reserved s ≡ true → target_in (format_of (byte s 0 % 0x40)) s ≡ x → read_with s x ≡ Ok r → Accepted s r
+accepted_target s r (Some t) z f e = accepted_valid s r t (valid_request (request_in s t)) z f refl e
+accepted_target s r None z f e = no_path (cc)
 
-accepted_reserved : (s : List ℕ) (r : Request) (b : Bool) → request_reserved s ≡ b → cond b (read_with s (target_in (format_of (byte s 0 % 0x40)) s)) Malformed ≡ Header r → Accepted s r
+accepted_reserved : (s : List ℕ) (r : Request) (b : Bool) → request_reserved s ≡ b → cond b (read_with s (target_in (format_of (byte s 0 % 0x40)) s)) (Err Malformed) ≡ Ok r → Accepted s r
 accepted_reserved s r true z e = accepted_target s r (target_in (format_of (byte s 0 % 0x40)) s) z refl e
 accepted_reserved s r false z e = no_path (cc)
 
-accepted : (s : List ℕ) (r : Request) → read_request s ≡ Header r → Accepted s r
+accepted : (s : List ℕ) (r : Request) → read_request s ≡ Ok r → Accepted s r
 unfolding read_request
 accepted s r e = accepted_reserved s r (request_reserved s) refl e
 
@@ -167,7 +164,7 @@ named k = go (eqb k 0x00) (eqb k 0x20) (eqb k 0x04) (eqb k 0x05) refl refl refl 
     go false false false true p q r s = eqb-true k 0x05 s
     go false false false false p q r s = tt
 
-taken : (b : Bool) (x t : Target) → cond b (At x) Wrong ≡ At t → (b ≡ true) × (t ≡ x)
+taken : (b : Bool) (x t : Target) → cond b (Some x) None ≡ Some t → (b ≡ true) × (t ≡ x)
 taken true x t e = (refl, (cc))
 taken false x t e = no_path (cc)
 
@@ -224,14 +221,14 @@ module _ (s : List ℕ) (b : Bytes s) (z : request_reserved s ≡ true) where
   abbrev Back : Target → Type 0
   Back t = Address t × (request_bytes (request_in s t) ≡ s)
 
-  memory3_there : (t : Target) → byte s 0 % 0x40 ≡ 0x00 → target_in Memory3 s ≡ At t → Back t
+  memory3_there : (t : Target) → byte s 0 % 0x40 ≡ 0x00 → target_in Memory3 s ≡ Some t → Back t
   unfolding target_in
   memory3_there t k e =
       let w = taken (eqb (length s) 12) (Memory (number s 8 4)) t e in
       let a : number s 8 4 < 2 ^ 32 = number_lt s 8 4 b in
       subst Back (sym w.1) (omega arith, eight_there (Memory (number s 8 4)) (cells s 8 4) (kind_there _ (byte s 0) 0x00 (short_type _ a).0 (short_type _ a).1 low.kind k) (short_bytes _ a ∙ bytes_number s 8 4 b) ∙ cells_all 12 s (eqb-true _ _ w.0))
 
-  memory4_there : (t : Target) → byte s 0 % 0x40 ≡ 0x20 → target_in Memory4 s ≡ At t → Back t
+  memory4_there : (t : Target) → byte s 0 % 0x40 ≡ 0x20 → target_in Memory4 s ≡ Some t → Back t
   unfolding target_in
   memory4_there t k e =
       let w = taken (eqb (length s) 16 && leb (2 ^ 32) (number s 8 8)) (Memory (number s 8 8)) t e in
@@ -242,7 +239,7 @@ module _ (s : List ℕ) (b : Bytes s) (z : request_reserved s ≡ true) where
   config_there : byte s 11 % 4 ≡ 0 → config_bytes (config_in s) ≡ cells s 8 4
   config_there r = cell refl (cell (omega arith) (cell refl (cell (omega arith) refl)))
 
-  type_there : (t target : Target) (low_bits : ℕ) → Address target → format_type false target ≡ low_bits → format_type true target ≡ 0x40 + low_bits → target_bytes target ≡ config_bytes (config_in s) → byte s 0 % 0x40 ≡ low_bits → cond (eqb (length s) 12 && eqb (byte s 11 % 4) 0) (At target) Wrong ≡ At t → Back t
+  type_there : (t target : Target) (low_bits : ℕ) → Address target → format_type false target ≡ low_bits → format_type true target ≡ 0x40 + low_bits → target_bytes target ≡ config_bytes (config_in s) → byte s 0 % 0x40 ≡ low_bits → cond (eqb (length s) 12 && eqb (byte s 11 % 4) 0) (Some target) None ≡ Some t → Back t
   type_there t target low_bits x f g h k e =
       let w = taken (eqb (length s) 12 && eqb (byte s 11 % 4) 0) target t e in
       let n = and_left (eqb (length s) 12) (eqb (byte s 11 % 4) 0) w.0 in
@@ -253,7 +250,7 @@ module _ (s : List ℕ) (b : Bytes s) (z : request_reserved s ≡ true) where
             ∙ cells_all 12 s (eqb-true _ _ n),
       )
 
-  target_there : (t : Target) (f : Format) → Named (byte s 0 % 0x40) f → target_in f s ≡ At t → Back t
+  target_there : (t : Target) (f : Format) → Named (byte s 0 % 0x40) f → target_in f s ≡ Some t → Back t
   unfolding target_in format_type target_bytes
   target_there t Memory3 k e = memory3_there t k e
   target_there t Memory4 k e = memory4_there t k e
@@ -261,7 +258,7 @@ module _ (s : List ℕ) (b : Bytes s) (z : request_reserved s ≡ true) where
   target_there t Type1 k e = type_there t (Config1 (config_in s)) 0x05 tt refl refl refl k e
   target_there t Other k e = no_path (cc)
 
-pub request_writes_back : (s : List ℕ) (r : Request) → Bytes s → read_request s ≡ Header r → ValidRequest r × (request_bytes r ≡ s)
+pub request_writes_back : (s : List ℕ) (r : Request) → Bytes s → read_request s ≡ Ok r → ValidRequest r × (request_bytes r ≡ s)
 request_writes_back s r b e =
     let a = accepted s r e in
     let w = target_there s b a.reserved r.target (format_of (byte s 0 % 0x40)) (named (byte s 0 % 0x40)) a.target in

@@ -1,7 +1,8 @@
 -- Numbers in header bytes, the most significant byte first, and the area that a writer fills.
-use Rattle.std.specs.Prelude.{ℕ, zero, suc, ◌+◌, ◌*◌, ◌/◌, ◌%◌, ◌^◌, List, [], ◌∷◌, ◌++◌, Bool, true, false, cond, not, length, get_or, drop, ltb, eqb}
+use Rattle.std.specs.Prelude.{ℕ, zero, suc, ◌+◌, ◌*◌, ◌/◌, ◌%◌, ◌^◌, List, [], ◌∷◌, ◌++◌, Bool, true, false, cond, not, length, get_or, drop, ltb, eqb, Result, Ok, Err}
+use Rattle.refusals.specs.declared.Refusal.{Refusal}
+use Rattle.refusals.specs.declared.Refusal.TheVariants.{TooShort, Malformed}
 use Rattle.refusals.specs.Table.{refused_by, header_order}
-use Rattle.tlp.specs.declared.Written.{Written}
 
 -- the n bytes of x
 abbrev pub bytes : ℕ → ℕ → List ℕ
@@ -34,11 +35,10 @@ length_in field = or_full 1024 field
 abbrev pub write_refusal : ℕ → Bool → ℕ
 write_refusal room valid = refused_by header_order (ltb room 16 ∷ not valid ∷ [])
 
--- what a writer answers, with the header's bytes at hand
-unfoldable pub write_header : ℕ → Bool → List ℕ → Written
-write_header room valid header =
-    cond (eqb (write_refusal room valid) 0) (record { number = 0; length = length header })
-    (record { number = write_refusal room valid; length = 0 })
+-- what a writer answers, with the header's bytes at hand: how many they are, or the refusal that has that number (a law of
+-- Laws.antt)
+unfoldable pub write_header : ℕ → Bool → List ℕ → Result ℕ Refusal
+write_header room valid header = cond (ltb room 16) (Err TooShort) (cond valid (Ok (length header)) (Err Malformed))
 
 -- the area afterwards: the header fills a prefix and the rest stays; a refusal changes nothing
 unfoldable pub area_after : List ℕ → Bool → List ℕ → List ℕ

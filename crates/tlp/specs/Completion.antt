@@ -1,9 +1,8 @@
 -- Document 01, 'Header bytes' and the first paragraph of 'Completions': completions.
-use Rattle.std.specs.Prelude.{ℕ, ◌+◌, ◌*◌, ◌/◌, ◌%◌, ◌^◌, List, [], ◌∷◌, Bool, cond, not, ◌&&◌, ◌||◌, length, ltb, leb, eqb}
-use Rattle.tlp.specs.declared.Written.{Written}
+use Rattle.std.specs.Prelude.{ℕ, ◌+◌, ◌*◌, ◌/◌, ◌%◌, ◌^◌, List, [], ◌∷◌, Bool, cond, not, ◌&&◌, ◌||◌, length, ltb, leb, eqb, Result, Ok, Err}
+use Rattle.refusals.specs.declared.Refusal.{Refusal}
+use Rattle.refusals.specs.declared.Refusal.TheVariants.{Malformed}
 use Rattle.tlp.specs.declared.completion.Completion.{Completion}
-use Rattle.tlp.specs.declared.completion.CompletionRead.{CompletionRead}
-use Rattle.tlp.specs.declared.completion.CompletionRead.TheVariants.{Header, Malformed}
 use Rattle.tlp.specs.Bytes.{byte, flag, or_full, length_in, write_header, area_after}
 
 -- The ranges.
@@ -47,7 +46,7 @@ completion_bytes c =
 
 -- The writer.
 
-abbrev pub write_completion : Completion → ℕ → Written
+abbrev pub write_completion : Completion → ℕ → Result ℕ Refusal
 write_completion c room = write_header room (valid_completion c) (completion_bytes c)
 
 abbrev pub area_after_completion : Completion → List ℕ → List ℕ
@@ -87,13 +86,8 @@ completion_reserved s =
     && ltb (byte s 2 % 0x40) 4
     && ltb (byte s 6 % 32) 16
 
-abbrev pub accept_completion : Completion → CompletionRead
-accept_completion c = cond (valid_completion c) (Header c) Malformed
+abbrev pub accept_completion : Completion → Result Completion Refusal
+accept_completion c = cond (valid_completion c) (Ok c) (Err Malformed)
 
-unfoldable pub read_completion : List ℕ → CompletionRead
-read_completion s = cond (completion_reserved s) (accept_completion (completion_in s)) Malformed
-
--- the number of a reader's answer
-abbrev pub completion_number : CompletionRead → ℕ
-completion_number (Header c) = 0
-completion_number Malformed = 12
+unfoldable pub read_completion : List ℕ → Result Completion Refusal
+read_completion s = cond (completion_reserved s) (accept_completion (completion_in s)) (Err Malformed)

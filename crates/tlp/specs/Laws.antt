@@ -1,15 +1,15 @@
 -- What the header definitions promise together. Each law is stated once, for a kind of header: its values, which of
 -- them are valid, the bytes of each, and what a reader and a writer make of bytes and of values.
-use Rattle.std.specs.Prelude.{ℕ, ◌≤◌, ◌<◌, ◌^◌, ◌≡◌, List, Bool, true, cond, get_or}
-use Rattle.tlp.specs.declared.Written.{Written}
+use Rattle.std.specs.Prelude.{ℕ, ◌≤◌, ◌<◌, ◌^◌, ◌≡◌, List, Bool, true, cond, get_or, Result, Ok}
+use Rattle.refusals.specs.declared.Refusal.{Refusal}
+use Rattle.refusals.specs.Refusals.{number_in}
 use Rattle.tlp.specs.declared.request.Target.{Target}
 use Rattle.tlp.specs.declared.request.Target.TheVariants.{Memory, Config0, Config1}
 use Rattle.tlp.specs.declared.request.Request.{Request}
-use Rattle.tlp.specs.declared.request.RequestRead.TheVariants as request
 use Rattle.tlp.specs.declared.completion.Completion.{Completion}
-use Rattle.tlp.specs.declared.completion.CompletionRead.TheVariants as completion
-use Rattle.tlp.specs.Request.{valid_request, request_bytes, read_request, request_number, write_request}
-use Rattle.tlp.specs.Completion.{valid_completion, completion_bytes, read_completion, completion_number, write_completion}
+use Rattle.tlp.specs.Bytes.{write_refusal}
+use Rattle.tlp.specs.Request.{valid_request, request_bytes, read_request, write_request}
+use Rattle.tlp.specs.Completion.{valid_completion, completion_bytes, read_completion, write_completion}
 
 -- a list of bytes
 abbrev pub Bytes : List ℕ → Type 0
@@ -32,8 +32,12 @@ ReadsExactly {H} Valid bytes read number =
     × ((v : H) × (Valid v × (bytes v ≡ s)) → number (read s) ≡ 0)
 
 -- a writer with room accepts exactly the valid values, and refuses the others with 12
-abbrev pub WritesExactly : {H : Type 0} → (H → Bool) → (H → ℕ → Written) → Type 0
-WritesExactly {H} valid write = (v : H) (room : ℕ) → 16 ≤ room → (write v room).number ≡ cond (valid v) 0 12
+abbrev pub WritesExactly : {H : Type 0} → (H → Bool) → (H → ℕ → Result ℕ Refusal) → Type 0
+WritesExactly {H} valid write = (v : H) (room : ℕ) → 16 ≤ room → number_in (write v room) ≡ cond (valid v) 0 12
+
+-- a writer's refusals have the table's order
+abbrev pub RefusesInOrder : {H : Type 0} → (H → Bool) → (H → ℕ → Result ℕ Refusal) → Type 0
+RefusesInOrder {H} valid write = (v : H) (room : ℕ) → number_in (write v room) ≡ write_refusal room (valid v)
 
 -- an address that a u64 can hold
 abbrev pub Address : Target → Type 0
@@ -48,13 +52,15 @@ abbrev pub ValidCompletion : Completion → Type 0
 ValidCompletion c = valid_completion c ≡ true
 
 pub record RequestLaws : Type 0 where
-  pub reads_back : ReadsBack ValidRequest request_bytes read_request request.Header
-  pub writes_back : WritesBack ValidRequest request_bytes read_request request.Header
-  pub reads_exactly : ReadsExactly ValidRequest request_bytes read_request request_number
+  pub reads_back : ReadsBack ValidRequest request_bytes read_request Ok
+  pub writes_back : WritesBack ValidRequest request_bytes read_request Ok
+  pub reads_exactly : ReadsExactly ValidRequest request_bytes read_request number_in
   pub writes_exactly : WritesExactly valid_request write_request
+  pub refuses_in_order : RefusesInOrder valid_request write_request
 
 pub record CompletionLaws : Type 0 where
-  pub reads_back : ReadsBack ValidCompletion completion_bytes read_completion completion.Header
-  pub writes_back : WritesBack ValidCompletion completion_bytes read_completion completion.Header
-  pub reads_exactly : ReadsExactly ValidCompletion completion_bytes read_completion completion_number
+  pub reads_back : ReadsBack ValidCompletion completion_bytes read_completion Ok
+  pub writes_back : WritesBack ValidCompletion completion_bytes read_completion Ok
+  pub reads_exactly : ReadsExactly ValidCompletion completion_bytes read_completion number_in
   pub writes_exactly : WritesExactly valid_completion write_completion
+  pub refuses_in_order : RefusesInOrder valid_completion write_completion

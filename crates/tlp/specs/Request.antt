@@ -1,16 +1,11 @@
 -- Document 01, 'Header bytes': requests.
-use Rattle.std.specs.Prelude.{ℕ, ◌+◌, ◌*◌, ◌/◌, ◌%◌, ◌^◌, List, [], ◌∷◌, Bool, true, false, cond, not, ◌&&◌, ◌||◌, length, ltb, leb, eqb}
-use Rattle.tlp.specs.declared.Written.{Written}
+use Rattle.std.specs.Prelude.{ℕ, ◌+◌, ◌*◌, ◌/◌, ◌%◌, ◌^◌, List, [], ◌∷◌, Bool, true, false, cond, not, ◌&&◌, ◌||◌, length, ltb, leb, eqb, Option, Some, None, Result, Ok, Err}
+use Rattle.refusals.specs.declared.Refusal.{Refusal}
+use Rattle.refusals.specs.declared.Refusal.TheVariants.{Malformed}
 use Rattle.tlp.specs.declared.request.ConfigAddress.{ConfigAddress}
 use Rattle.tlp.specs.declared.request.Target.{Target}
 use Rattle.tlp.specs.declared.request.Target.TheVariants.{Memory, Config0, Config1}
 use Rattle.tlp.specs.declared.request.Request.{Request}
-use Rattle.tlp.specs.declared.request.Format.{Format}
-use Rattle.tlp.specs.declared.request.Format.TheVariants.{Memory3, Memory4, Type0, Type1, Other}
-use Rattle.tlp.specs.declared.request.TargetRead.{TargetRead}
-use Rattle.tlp.specs.declared.request.TargetRead.TheVariants.{At, Wrong}
-use Rattle.tlp.specs.declared.request.RequestRead.{RequestRead}
-use Rattle.tlp.specs.declared.request.RequestRead.TheVariants.{Header, Malformed}
 use Rattle.tlp.specs.Bytes.{bytes, byte, number, length_in, write_header, area_after}
 
 -- The ranges.
@@ -79,13 +74,21 @@ request_bytes r =
 
 -- The writer.
 
-abbrev pub write_request : Request → ℕ → Written
+abbrev pub write_request : Request → ℕ → Result ℕ Refusal
 write_request r room = write_header room (valid_request r) (request_bytes r)
 
 abbrev pub area_after_request : Request → List ℕ → List ℕ
 area_after_request r area = area_after area (valid_request r) (request_bytes r)
 
 -- The reader.
+
+-- the layouts
+pub data Format : Type 0 where
+  Memory3 : Format
+  Memory4 : Format
+  Type0 : Format
+  Type1 : Format
+  Other : Format
 
 -- byte 0 without the write bit
 unfoldable pub format_of : ℕ → Format
@@ -103,12 +106,12 @@ config_in s =
     }
 
 -- exactly the header's bytes; 4-word addresses are 2^32 or more; the register's low two bits are zero
-unfoldable pub target_in : Format → List ℕ → TargetRead
-target_in Memory3 s = cond (eqb (length s) 12) (At (Memory (number s 8 4))) Wrong
-target_in Memory4 s = cond (eqb (length s) 16 && leb (2 ^ 32) (number s 8 8)) (At (Memory (number s 8 8))) Wrong
-target_in Type0 s = cond (eqb (length s) 12 && eqb (byte s 11 % 4) 0) (At (Config0 (config_in s))) Wrong
-target_in Type1 s = cond (eqb (length s) 12 && eqb (byte s 11 % 4) 0) (At (Config1 (config_in s))) Wrong
-target_in Other s = Wrong
+unfoldable pub target_in : Format → List ℕ → Option Target
+target_in Memory3 s = cond (eqb (length s) 12) (Some (Memory (number s 8 4))) None
+target_in Memory4 s = cond (eqb (length s) 16 && leb (2 ^ 32) (number s 8 8)) (Some (Memory (number s 8 8))) None
+target_in Type0 s = cond (eqb (length s) 12 && eqb (byte s 11 % 4) 0) (Some (Config0 (config_in s))) None
+target_in Type1 s = cond (eqb (length s) 12 && eqb (byte s 11 % 4) 0) (Some (Config1 (config_in s))) None
+target_in Other s = None
 
 abbrev pub request_in : List ℕ → Target → Request
 request_in s target =
@@ -126,17 +129,12 @@ request_in s target =
 unfoldable pub request_reserved : List ℕ → Bool
 request_reserved s = ltb (byte s 0) 0x80 && eqb (byte s 1) 0 && ltb (byte s 2) 4
 
-abbrev pub accept_request : Request → RequestRead
-accept_request r = cond (valid_request r) (Header r) Malformed
+abbrev pub accept_request : Request → Result Request Refusal
+accept_request r = cond (valid_request r) (Ok r) (Err Malformed)
 
-abbrev pub read_with : List ℕ → TargetRead → RequestRead
-read_with s (At target) = accept_request (request_in s target)
-read_with s Wrong = Malformed
+abbrev pub read_with : List ℕ → Option Target → Result Request Refusal
+read_with s (Some target) = accept_request (request_in s target)
+read_with s None = Err Malformed
 
-unfoldable pub read_request : List ℕ → RequestRead
-read_request s = cond (request_reserved s) (read_with s (target_in (format_of (byte s 0 % 0x40)) s)) Malformed
-
--- the number of a reader's answer
-abbrev pub request_number : RequestRead → ℕ
-request_number (Header r) = 0
-request_number Malformed = 12
+unfoldable pub read_request : List ℕ → Result Request Refusal
+read_request s = cond (request_reserved s) (read_with s (target_in (format_of (byte s 0 % 0x40)) s)) (Err Malformed)

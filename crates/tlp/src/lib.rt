@@ -5,29 +5,29 @@ pub mod completion;
 pub mod packet;
 pub mod request;
 
-ghost use Rattle.std.specs.Prelude.{◌≡◌};
-ghost use Rattle.tlp.specs.Bytes.{length_in};
+ghost use Rattle.std.specs.Prelude.{◌≡◌, ◌+◌, ◌*◌, ◌++◌, ◌≤◌, length, drop};
+ghost use Rattle.tlp.specs.Bytes.{or_full};
 
-// What a writer answers: the number of its refusal, or 0 and how many bytes it wrote.
-#[derive(Clone, Copy)]
-pub struct Written {
-    pub number: u32,
-    pub length: usize,
-}
-
-// A header in the first bytes of an array.
-#[derive(Clone, Copy)]
-struct Laid {
-    bytes: [u8; 16],
-    length: usize,
-}
-
-// The Length field of a header with data: 0 says 1,024 words.
-fn length_in(field: u32) -> u32
-    ensures { result ≡ length_in field }
+// A field in which the full value is written as 0.
+fn or_full(full: u32, field: u32) -> u32
+    ensures { result ≡ or_full full field }
 {
-    if field == 0 {
-        return 1024;
-    }
-    field
+    if field == 0 { full } else { field }
+}
+
+// The number in two bytes.
+fn pair(high: u8, low: u8) -> u32
+    ensures { result ≡ high * 256 + low }
+{
+    u32::from(u16::from_be_bytes([high, low]))
+}
+
+// Puts bytes at an area's front; how many they are.
+fn put(area: &mut [u8], bytes: &[u8]) -> usize
+    requires { length bytes.now ≤ length area.old }
+    ensures { (result ≡ length bytes.now) × (area.new ≡ bytes.now ++ drop (length bytes.now) area.old) }
+{
+    let n = bytes.len();
+    area[..n].copy_from_slice(bytes);
+    n
 }

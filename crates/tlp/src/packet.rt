@@ -1,32 +1,27 @@
 // A completion's packet: a header with its payload.
-ghost use Rattle.std.specs.Prelude.{◌≡◌, cond, ◌+◌, ◌*◌, eqb};
-ghost use Rattle.tlp.specs.declared.completion.CompletionRead.TheVariants.{Header, Malformed};
+ghost use Rattle.std.specs.Prelude.{◌≡◌, cond, ◌+◌, ◌*◌, eqb, Ok, Err};
+ghost use Rattle.refusals.specs.declared.Refusal.TheVariants.{Malformed};
 ghost use Rattle.tlp.specs.Packet.{completion_of};
 
-use crate::completion::{Completion, CompletionRead, read_completion};
-use common::index;
+use crate::completion::{Completion, read_completion};
+use refusals::Refusal;
 
 // With a header's words behind it, the packet is whole.
-pub fn with_payload(room: usize, h: Completion) -> CompletionRead
-    ensures { result ≡ cond (eqb room (12 + 4 * h.length)) (Header h) Malformed }
+pub fn with_payload(room: usize, h: Completion) -> Result<Completion, Refusal>
+    ensures { result ≡ cond (eqb room (12 + 4 * h.length)) (Ok h) (Err Malformed) }
 {
-    if room == 12 + 4 * index(h.length) {
-        return CompletionRead::Header(h);
+    if room == 12 + 4 * h.length as usize {
+        Ok(h)
+    } else {
+        Err(Refusal::Malformed)
     }
-    CompletionRead::Malformed
 }
 
 // The header of a packet, whose payload has its length.
-pub fn completion_of(packet: &[u8]) -> CompletionRead
+#[tactic(auto, using(crate::proofs::Short::cut_short), unfolding(crate::specs::Packet::completion_of))]
+pub fn completion_of(packet: &[u8]) -> Result<Completion, Refusal>
     ensures { result ≡ completion_of packet.now }
 {
-    let room = packet.len();
-    if room < 12 {
-        return CompletionRead::Malformed;
-    }
-    let r = read_completion(&packet[..12]);
-    match r {
-        CompletionRead::Malformed => CompletionRead::Malformed,
-        CompletionRead::Header(h) => with_payload(room, h),
-    }
+    let header = packet.get(..12).ok_or(Refusal::Malformed)?;
+    with_payload(packet.len(), read_completion(header)?)
 }

@@ -1,13 +1,13 @@
 // Request headers: memory reads and writes, configuration reads and writes of types 0 and 1.
-ghost use Rattle.std.specs.Prelude.{◌≡◌, true, ◌+◌, ◌*◌, ◌/◌, ◌%◌, ◌≤◌, ◌<◌, ◌^◌, length, take, get_or};
-ghost use Rattle.tlp.specs.Bytes.{number};
-ghost use Rattle.tlp.specs.Request.{valid_enables, valid_config, valid_target, valid_request, format_type, config_bytes, address_bytes, target_bytes, request_bytes, write_request, area_after_request, format_of, config_in, target_in, request_in, accept_request, read_request, request_number};
+ghost use Rattle.std.specs.Prelude.{◌≡◌, true, cond, ◌&&◌, ◌++◌, ◌%◌, ◌≤◌, length, drop, eqb, Some, None};
+ghost use Rattle.tlp.specs.Bytes.{byte};
+ghost use Rattle.tlp.specs.Request.{valid_enables, valid_config, valid_target, valid_request, format_type, config_bytes, target_bytes, request_bytes, write_request, area_after_request, format_of, config_in, target_in, request_in, read_request};
 
-use crate::{Laid, Written, length_in};
-use common::{copy_at, wide, wide64};
+use crate::{or_full, pair, put};
+use refusals::Refusal;
 
 // Where a configuration request goes.
-#[derive(Clone, Copy)]
+#[derive(Clone, Copy, Debug, PartialEq, Eq)]
 pub struct ConfigAddress {
     pub bus: u32,
     pub device: u32,
@@ -17,7 +17,7 @@ pub struct ConfigAddress {
     pub register: u32,
 }
 
-#[derive(Clone, Copy)]
+#[derive(Clone, Copy, Debug, PartialEq, Eq)]
 pub enum Target {
     // A PCIe address. Below 2^32 the header has 3 words, else 4.
     Memory(u64),
@@ -25,7 +25,7 @@ pub enum Target {
     Config1(ConfigAddress),
 }
 
-#[derive(Clone, Copy)]
+#[derive(Clone, Copy, Debug, PartialEq, Eq)]
 pub struct Request {
     pub write: bool,
     pub target: Target,
@@ -40,308 +40,168 @@ pub struct Request {
     pub first: u32,
 }
 
-// What a reader finds.
-#[derive(Clone, Copy)]
-pub enum RequestRead {
-    Header(Request),
-    Malformed,
-}
+impl ConfigAddress {
+    fn is_valid(self) -> bool
+        ensures { result ≡ valid_config self }
+    {
+        (self.bus < 256)
+            & (self.device < 32)
+            & (self.function < 8)
+            & (self.extended < 16)
+            & (self.register < 64)
+    }
 
-// The layout that byte 0 names, but for its write bit.
-#[derive(Clone, Copy)]
-enum Format {
-    Memory3,
-    Memory4,
-    Type0,
-    Type1,
-    Other,
-}
-
-#[derive(Clone, Copy)]
-enum TargetRead {
-    At(Target),
-    Wrong,
-}
-
-// A header's bytes from byte 8 on.
-#[derive(Clone, Copy)]
-struct Tail {
-    bytes: [u8; 8],
-    length: usize,
-}
-
-fn valid_enables(words: u32, last: u32, first: u32) -> bool
-    ensures { result ≡ valid_enables words last first }
-{
-    (words == 1) & (last == 0) | (1 < words) & (last != 0) & (first != 0)
-}
-
-fn valid_config(p: ConfigAddress) -> bool
-    ensures { result ≡ valid_config p }
-{
-    (p.bus < 256) & (p.device < 32) & (p.function < 8) & (p.extended < 16) & (p.register < 64)
-}
-
-fn valid_target(words: u32, target: Target) -> bool
-    ensures { result ≡ valid_target words target }
-{
-    match target {
-        Target::Memory(a) => a % 4 == 0,
-        Target::Config0(p) => (words == 1) & valid_config(p),
-        Target::Config1(p) => (words == 1) & valid_config(p),
+    fn bytes(self) -> [u8; 4]
+        requires { valid_config self ≡ true }
+        ensures { result ≡ config_bytes self }
+    {
+        [
+            self.bus as u8,
+            (self.device * 8 + self.function) as u8,
+            self.extended as u8,
+            (self.register * 4) as u8,
+        ]
     }
 }
 
-fn valid_request(q: Request) -> bool
-    ensures { result ≡ valid_request q }
-{
-    let target = q.target;
-    (1 <= q.length)
-        & (q.length <= 1024)
-        & (q.requester < 65536)
-        & (q.tag < 256)
-        & (q.last < 16)
-        & (q.first < 16)
-        & valid_enables(q.length, q.last, q.first)
-        & valid_target(q.length, target)
-}
-
-fn format_type(write: bool, target: Target) -> u8
-    ensures { result ≡ format_type write target }
-{
-    match target {
-        Target::Memory(a) => {
-            if a < 4294967296 {
-                return if write { 0x40 } else { 0x00 };
-            }
-            if write { 0x60 } else { 0x20 }
+impl Target {
+    #[tactic(auto, unfolding(crate::specs::Request::valid_target))]
+    fn is_valid(self, words: u32) -> bool
+        ensures { result ≡ valid_target words self }
+    {
+        match self {
+            Target::Memory(a) => a % 4 == 0,
+            Target::Config0(p) | Target::Config1(p) => (words == 1) & p.is_valid(),
         }
-        Target::Config0(_) => { if write { 0x44 } else { 0x04 } }
-        Target::Config1(_) => { if write { 0x45 } else { 0x05 } }
     }
-}
 
-// The four bytes of a configuration address.
-fn config_tail(p: ConfigAddress) -> Tail
-    requires { valid_config p ≡ true }
-    ensures { (take result.length result.bytes ≡ config_bytes p) × (result.length ≤ 8) }
-{
-    Tail {
-        bytes: [
-            p.bus as u8,
-            (p.device * 8 + p.function) as u8,
-            p.extended as u8,
-            (p.register * 4) as u8,
-            0,
-            0,
-            0,
-            0,
-        ],
-        length: 4,
-    }
-}
-
-fn byte_of(a: u64, unit: u64) -> u8
-    requires { 0 < unit }
-    ensures { result ≡ a / unit % 256 }
-{
-    (a / unit % 256) as u8
-}
-
-fn memory_tail(a: u64) -> Tail
-    ensures { (take result.length result.bytes ≡ address_bytes a) × (result.length ≤ 8) }
-{
-    if a < 4294967296 {
-        return Tail {
-            bytes: [
-                byte_of(a, 16777216),
-                byte_of(a, 65536),
-                byte_of(a, 256),
-                byte_of(a, 1),
-                0,
-                0,
-                0,
-                0,
-            ],
-            length: 4,
+    // Byte 0, format and type.
+    #[tactic(auto, unfolding(crate::specs::Request::format_type))]
+    fn format_type(self, write: bool) -> u8
+        ensures { result ≡ format_type write self }
+    {
+        let read = match self {
+            Target::Memory(a) => if a < 4294967296 { 0x00 } else { 0x20 },
+            Target::Config0(_) => 0x04,
+            Target::Config1(_) => 0x05,
         };
-    }
-    Tail {
-        bytes: [
-            byte_of(a, 72057594037927936),
-            byte_of(a, 281474976710656),
-            byte_of(a, 1099511627776),
-            byte_of(a, 4294967296),
-            byte_of(a, 16777216),
-            byte_of(a, 65536),
-            byte_of(a, 256),
-            byte_of(a, 1),
-        ],
-        length: 8,
+        if write { read + 0x40 } else { read }
     }
 }
 
-fn target_tail(words: u32, target: Target) -> Tail
-    requires { valid_target words target ≡ true }
-    ensures { (take result.length result.bytes ≡ target_bytes target) × (result.length ≤ 8) }
-{
-    match target {
-        Target::Memory(a) => memory_tail(a),
-        Target::Config0(p) => config_tail(p),
-        Target::Config1(p) => config_tail(p),
+impl Request {
+    fn valid_enables(self) -> bool
+        ensures { result ≡ valid_enables self.length self.last self.first }
+    {
+        (self.length == 1) & (self.last == 0)
+            | (1 < self.length) & (self.last != 0) & (self.first != 0)
     }
-}
 
-// The header of a valid request, in the first bytes of an array.
-fn request_header(q: Request) -> Laid
-    requires { valid_request q ≡ true }
-    ensures { (take result.length result.bytes ≡ request_bytes q) × (result.length ≤ 16) }
-{
-    let target = q.target;
-    let kind = format_type(q.write, target);
-    let t = target_tail(q.length, target);
-    Laid {
-        bytes: [
-            kind,
+    #[tactic(auto, unfolding(crate::specs::Request::valid_request))]
+    fn is_valid(self) -> bool
+        ensures { result ≡ valid_request self }
+    {
+        (1 <= self.length)
+            & (self.length <= 1024)
+            & (self.requester < 65536)
+            & (self.tag < 256)
+            & (self.last < 16)
+            & (self.first < 16)
+            & self.valid_enables()
+            & self.target.is_valid(self.length)
+    }
+
+    // Bytes 0 to 7.
+    #[tactic(auto, unfolding(crate::specs::Request::valid_request, crate::specs::Request::request_bytes))]
+    fn head(self) -> [u8; 8]
+        requires { valid_request self ≡ true }
+        ensures { result ++ target_bytes self.target ≡ request_bytes self }
+    {
+        let length = ((self.length % 1024) as u16).to_be_bytes();
+        let requester = (self.requester as u16).to_be_bytes();
+        [
+            self.target.format_type(self.write),
             0,
-            (q.length % 1024 / 256) as u8,
-            (q.length % 256) as u8,
-            (q.requester / 256) as u8,
-            (q.requester % 256) as u8,
-            q.tag as u8,
-            (q.last * 16 + q.first) as u8,
-            t.bytes[0],
-            t.bytes[1],
-            t.bytes[2],
-            t.bytes[3],
-            t.bytes[4],
-            t.bytes[5],
-            t.bytes[6],
-            t.bytes[7],
-        ],
-        length: 8 + t.length,
+            length[0],
+            length[1],
+            requester[0],
+            requester[1],
+            self.tag as u8,
+            (self.last * 16 + self.first) as u8,
+        ]
+    }
+
+    // Puts what stands from byte 8 on; how many bytes that is.
+    #[tactic(auto, unfolding(crate::specs::Request::valid_request, crate::specs::Request::valid_target, crate::specs::Request::target_bytes))]
+    fn put_target(self, area: &mut [u8]) -> usize
+        requires { (valid_request self ≡ true) × (8 ≤ length area.old) }
+        ensures { (result ≡ length (target_bytes self.target)) × (area.new ≡ target_bytes self.target ++ drop (length (target_bytes self.target)) area.old) }
+    {
+        match self.target {
+            Target::Memory(a) => {
+                if a < 4294967296 {
+                    put(area, &(a as u32).to_be_bytes())
+                } else {
+                    put(area, &a.to_be_bytes())
+                }
+            }
+            Target::Config0(p) | Target::Config1(p) => put(area, &p.bytes()),
+        }
     }
 }
 
-// Puts the header of q into the area, of at least 16 bytes.
-pub fn write_request(q: Request, area: &mut [u8]) -> Written
+// Puts the header of q into the area, of at least 16 bytes; how many bytes it has.
+#[tactic(auto, unfolding(crate::specs::Bytes::write_header, crate::specs::Bytes::area_after))]
+pub fn write_request(q: Request, area: &mut [u8]) -> Result<usize, Refusal>
     ensures { (result ≡ write_request q (length area.old)) × (area.new ≡ area_after_request q area.old) }
 {
     if area.len() < 16 {
-        return Written {
-            number: 8,
-            length: 0,
-        };
+        return Err(Refusal::TooShort);
     }
-    if valid_request(q) {
-        let h = request_header(q);
-        let n = h.length;
-        let bytes = h.bytes;
-        copy_at(area, 0, &bytes, n);
-        return Written {
-            number: 0,
-            length: n,
-        };
+    if !q.is_valid() {
+        return Err(Refusal::Malformed);
     }
-    Written {
-        number: 12,
-        length: 0,
-    }
+    let n = put(area, &q.head());
+    Ok(n + q.put_target(&mut area[n..]))
 }
 
-fn format_of(low: u32) -> Format
-    ensures { result ≡ format_of low }
-{
-    if low == 0x00 {
-        return Format::Memory3;
-    }
-    if low == 0x20 {
-        return Format::Memory4;
-    }
-    if low == 0x04 {
-        return Format::Type0;
-    }
-    if low == 0x05 {
-        return Format::Type1;
-    }
-    Format::Other
-}
-
-fn address3(s: &[u8]) -> u64
+fn config_in(s: &[u8]) -> Option<ConfigAddress>
     requires { 12 ≤ length s.now }
-    ensures { (result ≡ number s.now 8 4) × (result < 2 ^ 32) }
+    ensures { result ≡ cond (eqb (length s.now) 12 && eqb (byte s.now 11 % 4) 0) (Some (config_in s.now)) None }
 {
-    wide64(s[8]) * 16777216 + wide64(s[9]) * 65536 + wide64(s[10]) * 256 + wide64(s[11])
-}
-
-fn low_word(s: &[u8]) -> u64
-    requires { 16 ≤ length s.now }
-    ensures { (result ≡ number s.now 12 4) × (result < 2 ^ 32) }
-{
-    wide64(s[12]) * 16777216 + wide64(s[13]) * 65536 + wide64(s[14]) * 256 + wide64(s[15])
-}
-
-fn address4(s: &[u8]) -> u64
-    requires { 16 ≤ length s.now }
-    ensures { result ≡ number s.now 8 8 }
-{
-    address3(s) * 4294967296 + low_word(s)
-}
-
-fn config_in(s: &[u8]) -> ConfigAddress
-    requires { 12 ≤ length s.now }
-    ensures { result ≡ config_in s.now }
-{
-    let place = wide(s[9]);
-    ConfigAddress {
-        bus: wide(s[8]),
-        device: place / 8,
-        function: place % 8,
-        extended: wide(s[10]),
-        register: wide(s[11]) / 4,
+    if s.len() == 12 && s[11] % 4 == 0 {
+        return Some(ConfigAddress {
+            bus: u32::from(s[8]),
+            device: u32::from(s[9] / 8),
+            function: u32::from(s[9] % 8),
+            extended: u32::from(s[10]),
+            register: u32::from(s[11] / 4),
+        });
     }
+    None
 }
 
-fn target_in(format: Format, s: &[u8]) -> TargetRead
+#[tactic(auto, unfolding(crate::specs::Request::format_of, crate::specs::Request::target_in))]
+fn target_in(s: &[u8]) -> Option<Target>
     requires { 12 ≤ length s.now }
-    ensures { result ≡ target_in format s.now }
+    ensures { result ≡ target_in (format_of (byte s.now 0 % 0x40)) s.now }
 {
-    match format {
-        Format::Memory3 => {
-            if s.len() != 12 {
-                return TargetRead::Wrong;
-            }
-            TargetRead::At(Target::Memory(address3(s)))
+    let n = s.len();
+    match s[0] % 0x40 {
+        0x00 if n == 12 => {
+            Some(Target::Memory(u64::from(u32::from_be_bytes([s[8], s[9], s[10], s[11]]))))
         }
-        Format::Memory4 => {
-            if s.len() != 16 {
-                return TargetRead::Wrong;
-            }
-            let a = address4(s);
+        0x20 if n == 16 => {
+            let a = u64::from_be_bytes([s[8], s[9], s[10], s[11], s[12], s[13], s[14], s[15]]);
             if a < 4294967296 {
-                return TargetRead::Wrong;
+                None
+            } else {
+                Some(Target::Memory(a))
             }
-            TargetRead::At(Target::Memory(a))
         }
-        Format::Type0 => {
-            if s.len() != 12 {
-                return TargetRead::Wrong;
-            }
-            if wide(s[11]) % 4 != 0 {
-                return TargetRead::Wrong;
-            }
-            TargetRead::At(Target::Config0(config_in(s)))
-        }
-        Format::Type1 => {
-            if s.len() != 12 {
-                return TargetRead::Wrong;
-            }
-            if wide(s[11]) % 4 != 0 {
-                return TargetRead::Wrong;
-            }
-            TargetRead::At(Target::Config1(config_in(s)))
-        }
-        Format::Other => TargetRead::Wrong,
+        0x04 => Some(Target::Config0(config_in(s)?)),
+        0x05 => Some(Target::Config1(config_in(s)?)),
+        _ => None,
     }
 }
 
@@ -349,56 +209,29 @@ fn request_in(s: &[u8], target: Target) -> Request
     requires { 12 ≤ length s.now }
     ensures { result ≡ request_in s.now target }
 {
-    let kind = wide(s[0]);
-    let field = wide(s[2]) * 256 + wide(s[3]);
-    let requester = wide(s[4]) * 256 + wide(s[5]);
-    let enables = wide(s[7]);
     Request {
-        write: 0x40 <= kind,
-        target: target,
-        length: length_in(field),
-        requester: requester,
-        tag: wide(s[6]),
-        last: enables / 16,
-        first: enables % 16,
+        write: 0x40 <= s[0],
+        target,
+        length: or_full(1024, pair(s[2], s[3])),
+        requester: pair(s[4], s[5]),
+        tag: u32::from(s[6]),
+        last: u32::from(s[7] / 16),
+        first: u32::from(s[7] % 16),
     }
-}
-
-fn accept_request(q: Request) -> RequestRead
-    ensures { result ≡ accept_request q }
-{
-    if valid_request(q) {
-        return RequestRead::Header(q);
-    }
-    RequestRead::Malformed
 }
 
 // The request whose header the bytes are, all of them.
-pub fn read_request(s: &[u8]) -> RequestRead
+#[tactic(auto, using(crate::proofs::Reading::read_short), unfolding(crate::specs::Request::read_request, crate::specs::Request::request_reserved))]
+pub fn read_request(s: &[u8]) -> Result<Request, Refusal>
     ensures { result ≡ read_request s.now }
 {
-    if s.len() < 12 {
-        return RequestRead::Malformed;
+    if s.len() < 12 || !((s[0] < 0x80) & (s[1] == 0) & (s[2] < 4)) {
+        return Err(Refusal::Malformed);
     }
-    let kind = wide(s[0]);
-    if (kind < 0x80) & (wide(s[1]) == 0) & (wide(s[2]) < 4) {
-        let found = target_in(format_of(kind % 0x40), s);
-        return match found {
-            TargetRead::At(target) => accept_request(request_in(s, target)),
-            TargetRead::Wrong => RequestRead::Malformed,
-        };
-    }
-    RequestRead::Malformed
-}
-
-impl RequestRead {
-    // The number of the refusal, 0 for a header.
-    pub fn number(self) -> u32
-        ensures { result ≡ request_number self }
-    {
-        match self {
-            RequestRead::Header(_) => 0,
-            RequestRead::Malformed => 12,
-        }
+    let q = request_in(s, target_in(s).ok_or(Refusal::Malformed)?);
+    if q.is_valid() {
+        Ok(q)
+    } else {
+        Err(Refusal::Malformed)
     }
 }

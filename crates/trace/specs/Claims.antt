@@ -1,10 +1,9 @@
 -- Demand 3: what is claimed of every whole list of events.
-use Rattle.std.specs.Prelude.{ℕ, ◌+◌, ◌%◌, ◌*◌, ◌≤◌, ◌<◌, ◌≡◌, ◌⊎◌, Bool, true, false, cond, not, ◌&&◌, length, eqb, ltb}
+use Rattle.std.specs.Prelude.{ℕ, ◌+◌, ◌%◌, ◌*◌, ◌≤◌, ◌<◌, ◌≡◌, ◌⊎◌, Bool, true, false, cond, not, ◌&&◌, length, eqb, ltb, Result, Ok, Err}
 use mathlib.Core.List.{List, [], ◌∷◌, ◌++◌, map, flat_map}
 use Rattle.std.proofs.Math.Option.{Option, none, some}
+use Rattle.refusals.specs.declared.Refusal.{Refusal}
 use Rattle.tlp.specs.declared.completion.Completion.{Completion}
-use Rattle.tlp.specs.declared.completion.CompletionRead.{CompletionRead}
-use Rattle.tlp.specs.declared.completion.CompletionRead.TheVariants.{Header, Malformed}
 use Rattle.address.specs.declared.Settings.{Settings}
 use Rattle.burst.specs.declared.Burst.{Burst}
 use Rattle.burst.specs.Bursts.{length_of}
@@ -130,9 +129,9 @@ is_good requester c =
     && not c.poisoned
     && ltb (4 * c.length) (c.lower % 4 + c.count + 4)
 
-abbrev pub good_by : ℕ → CompletionRead → ℕ
-good_by requester (Header c) = cond (is_good requester c) (useful c c.count) 0
-good_by requester Malformed = 0
+abbrev pub good_by : ℕ → Result Completion Refusal → ℕ
+good_by requester (Ok c) = cond (is_good requester c) (useful c c.count) 0
+good_by requester (Err r) = 0
 
 -- the bytes of the good ones of a list of completions
 abbrev pub good_bytes : ℕ → List (List ℕ) → ℕ
@@ -155,10 +154,10 @@ ReadOkay =
     → Until (AnsweredOkay (free_slot h.bridge)) (free_slot h.bridge) (step h (call (read q room))).after during
 
 -- a good completion for a configuration access
-abbrev pub is_good_word : ℕ → Bool → CompletionRead → Bool
-is_good_word requester writes (Header c) =
+abbrev pub is_good_word : ℕ → Bool → Result Completion Refusal → Bool
+is_good_word requester writes (Ok c) =
     eqb c.requester requester && eqb c.status 0 && not c.poisoned && config_shape c writes
-is_good_word requester writes Malformed = false
+is_good_word requester writes (Err r) = false
 
 -- one of a list is
 abbrev pub any_good_word : ℕ → Bool → List (List ℕ) → Bool

@@ -1,11 +1,10 @@
 -- The far side of demand 3, as values (01, 'Completions'): the requests that the bridge sends, what may be sent for each, and
 -- how the completions that come are paired with them.
-use Rattle.std.specs.Prelude.{ℕ, suc, ◌+◌, ◌-◌, ◌%◌, ◌≤◌, ◌<◌, ◌≡◌, Bool, true, false, cond, not, ◌&&◌, length, get_or, drop, eqb}
+use Rattle.std.specs.Prelude.{ℕ, suc, ◌+◌, ◌-◌, ◌%◌, ◌≤◌, ◌<◌, ◌≡◌, Bool, true, false, cond, not, ◌&&◌, length, get_or, drop, eqb, Result, Ok, Err}
 use mathlib.Core.List.{List, [], ◌∷◌, ◌++◌, map, Memᴰ}
 use Rattle.tags.specs.Tags.{free_tags, lowest}
+use Rattle.refusals.specs.declared.Refusal.{Refusal}
 use Rattle.tlp.specs.declared.completion.Completion.{Completion}
-use Rattle.tlp.specs.declared.completion.CompletionRead.{CompletionRead}
-use Rattle.tlp.specs.declared.completion.CompletionRead.TheVariants.{Header, Malformed}
 use Rattle.burst.specs.declared.Burst.{Burst}
 use Rattle.burst.specs.Pieces.{addresses}
 use Rattle.machine.specs.Bridge.{Bridge}
@@ -67,16 +66,16 @@ requests h (e ∷ es) = length (asked h e) + requests (step h e).after es
 abbrev pub carries : Completion → Bool
 carries c = eqb c.status 0 && c.payload
 
-abbrev pub carried_by : ℕ → CompletionRead → ℕ
-carried_by n (Header c) = cond (carries c) (useful c n) 0
-carried_by n Malformed = 0
+abbrev pub carried_by : ℕ → Result Completion Refusal → ℕ
+carried_by n (Ok c) = cond (carries c) (useful c n) 0
+carried_by n (Err r) = 0
 
 abbrev pub carried : ℕ → List ℕ → ℕ
 carried n s = carried_by n (completion_of s)
 
-abbrev pub data_by : ℕ → List ℕ → CompletionRead → List ℕ
-data_by n payload (Header c) = cond (carries c) (useful_bytes (c.lower % 4) (useful c n) payload) []
-data_by n payload Malformed = []
+abbrev pub data_by : ℕ → List ℕ → Result Completion Refusal → List ℕ
+data_by n payload (Ok c) = cond (carries c) (useful_bytes (c.lower % 4) (useful c n) payload) []
+data_by n payload (Err r) = []
 
 -- the bytes that a list of completions sends for n bytes
 abbrev pub bytes_sent : ℕ → List (List ℕ) → List ℕ
@@ -97,9 +96,9 @@ pub record States (a n : ℕ) (c : Completion) : Type 0 where
   pub count : c.count ≡ n
   pub lower : c.lower ≡ a % 128
 
-abbrev pub InTurn : ℕ → ℕ → List (List ℕ) → CompletionRead → Type 0
-InTurn a n l (Header c) = When (carries c) (States a n c) × When (fails c) (l ≡ [])
-InTurn a n l Malformed = Unit
+abbrev pub InTurn : ℕ → ℕ → List (List ℕ) → Result Completion Refusal → Type 0
+InTurn a n l (Ok c) = When (carries c) (States a n c) × When (fails c) (l ≡ [])
+InTurn a n l (Err r) = Unit
 
 -- a list sent for n bytes from address a on; 'nothing follows the last byte or a failing status'
 abbrev pub Sends : ℕ → ℕ → List (List ℕ) → Type 0
@@ -141,9 +140,9 @@ abbrev pub wire_after : Wire → Held → Event → Wire
 wire_after w h e = sending (dropping e w) (asked h e)
 
 -- 'each completion that comes and is not malformed is paired .. with one earlier request .. of the same tag'
-abbrev pub PairedBy : Wire → ℕ → CompletionRead → Type 0
-PairedBy w i (Header c) = Memᴰ (record { number = i; tag = c.tag }) w.live
-PairedBy w i Malformed = Unit
+abbrev pub PairedBy : Wire → ℕ → Result Completion Refusal → Type 0
+PairedBy w i (Ok c) = Memᴰ (record { number = i; tag = c.tag }) w.live
+PairedBy w i (Err r) = Unit
 
 abbrev pub Paired : Wire → Event → Type 0
 Paired w (call c) = Unit
@@ -152,9 +151,9 @@ Paired w tick = Unit
 Paired w (link up) = Unit
 
 -- the completions that are paired with request i, in the order in which they come
-abbrev pub readable : CompletionRead → Bool
-readable (Header c) = true
-readable Malformed = false
+abbrev pub readable : Result Completion Refusal → Bool
+readable (Ok c) = true
+readable (Err r) = false
 
 abbrev pub paired_now : ℕ → Event → List (List ℕ) → List (List ℕ)
 paired_now i (call c) l = l

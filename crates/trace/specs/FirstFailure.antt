@@ -1,9 +1,9 @@
 -- 'the response of the first failed piece in address order'; 'If a poisoned piece fails again later, the first cause gives its
 -- response' (01, 'Completions'): said over the failures of a read's pieces, as they are seen.
-use Rattle.std.specs.Prelude.{ℕ, zero, suc, ◌+◌, ◌-◌, ◌/◌, ◌≤◌, ◌≡◌, List, [], ◌∷◌, ◌++◌, cond, ◌&&◌, length, get_or, eqb, ltb}
+use Rattle.refusals.specs.declared.Refusal.{Refusal}
+use Rattle.tlp.specs.declared.completion.Completion.{Completion}
+use Rattle.std.specs.Prelude.{ℕ, zero, suc, ◌+◌, ◌-◌, ◌/◌, ◌≤◌, ◌≡◌, List, [], ◌∷◌, ◌++◌, cond, ◌&&◌, length, get_or, eqb, ltb, Result, Ok, Err}
 use Rattle.std.proofs.Math.Option.{Option, none, some}
-use Rattle.tlp.specs.declared.completion.CompletionRead.{CompletionRead}
-use Rattle.tlp.specs.declared.completion.CompletionRead.TheVariants.{Header, Malformed}
 use Rattle.address.specs.declared.Settings.{Settings}
 use Rattle.burst.specs.declared.Burst.{Burst}
 use Rattle.machine.specs.Bridge.{Bridge}
@@ -55,10 +55,10 @@ module _ (limit a k : ℕ) where
   verdict_fails place (Poisoned n) = failing place Poison
   verdict_fails place (Failed why) = failing place why
 
-  abbrev pub completion_fails : Bridge → CompletionRead → List Failure
-  completion_fails b (Header c) =
+  abbrev pub completion_fails : Bridge → Result Completion Refusal → List Failure
+  completion_fails b (Ok c) =
       cond (eqb (owner_of b c.tag) k) (verdict_fails (place_of b c.tag) (verdict_of b c)) []
-  completion_fails b Malformed = []
+  completion_fails b (Err r) = []
 
   -- the tags below n that a tick closes
   unfoldable pub tick_fails : Bridge → ℕ → List Failure

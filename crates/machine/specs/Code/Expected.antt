@@ -1,8 +1,7 @@
 -- What the steps of a completion tell each other: its useful bytes are there, and its tag is open.
-use Rattle.std.specs.Prelude.{ℕ, ◌+◌, ◌*◌, ◌%◌, ◌≤◌, ◌<◌, ◌≡◌, List, true, length}
+use Rattle.std.specs.Prelude.{ℕ, ◌+◌, ◌*◌, ◌%◌, ◌≤◌, ◌<◌, ◌≡◌, List, true, length, Result, Ok, Err}
+use Rattle.refusals.specs.declared.Refusal.{Refusal}
 use Rattle.tlp.specs.declared.completion.Completion.{Completion}
-use Rattle.tlp.specs.declared.completion.CompletionRead.{CompletionRead}
-use Rattle.tlp.specs.declared.completion.CompletionRead.TheVariants.{Header, Malformed}
 use Rattle.tlp.specs.Completion.{valid_completion}
 use Rattle.verdict.specs.declared.Verdict.{Verdict}
 use Rattle.verdict.specs.declared.Verdict.TheVariants.{Unexpected, Good, Poisoned, Failed}
@@ -27,9 +26,9 @@ abbrev pub VerdictFits : Type 0
 VerdictFits = (c : Completion) (missing next : ℕ) → valid_completion c ≡ true → Fits c missing (memory_verdict c missing next)
 
 -- a completion that is not malformed is valid, and its payload is 4 x length bytes
-abbrev pub Whole : List ℕ → CompletionRead → Type 0
-Whole s (Header c) = (valid_completion c ≡ true) × (length s ≡ 12 + 4 * c.length)
-Whole s Malformed = Unit
+abbrev pub Whole : List ℕ → Result Completion Refusal → Type 0
+Whole s (Ok c) = (valid_completion c ≡ true) × (length s ≡ 12 + 4 * c.length)
+Whole s (Err r) = Unit
 
 abbrev pub ReadWhole : Type 0
 ReadWhole = (s : List ℕ) → Whole s (completion_of s)

@@ -8,9 +8,9 @@ use native.Mathlib.Decide.{ℕ_discrete}
 use lib.ListN.{length, drop, length-take, length-drop}
 use lib.Dec.{eqb, ltb}
 use borrow.Author.Tests.{eqb-true, ltb-true, ltb-false, lt-ltb, le-ltb}
+use Rattle.std.specs.Prelude.{Result, Ok, Err}
+use Rattle.refusals.specs.declared.Refusal.{Refusal}
 use Rattle.tlp.specs.declared.completion.Completion.{Completion}
-use Rattle.tlp.specs.declared.completion.CompletionRead.{CompletionRead}
-use Rattle.tlp.specs.declared.completion.CompletionRead.TheVariants.{Header, Malformed}
 use Rattle.address.specs.declared.Settings.{Settings}
 use Rattle.verdict.specs.declared.Verdict.{Verdict}
 use Rattle.verdict.specs.declared.Verdict.TheVariants.{Unexpected, Good}
@@ -58,9 +58,9 @@ pub complete_same : {h g : Held} → Pair h g → (s : List ℕ) → complete_re
 unfolding complete_refusal
 complete_same {h} {g} p s = rw (le-ltb (length h.store) store_size p.early, le-ltb (length g.store) store_size p.late) (by (completion_of s))
   where
-    by : (r : CompletionRead) → read_refused h.bridge r ≡ read_refused g.bridge r
-    by (Header c) = ap verdict_number (verdict_same p.twin c)
-    by Malformed = refl
+    by : (r : Result Completion Refusal) → read_refused h.bridge r ≡ read_refused g.bridge r
+    by (Ok c) = ap verdict_number (verdict_same p.twin c)
+    by (Err r) = refl
 
 -- ---- an open tag of a slot with one open piece is the only one
 
@@ -87,7 +87,7 @@ alone h k t v l s m o few u n q =
 
 -- ---- one that is expected
 
-module _ {h g : Held} (s : List ℕ) (c : Completion) (e : completion_of s ≡ Header c) (v : Sound h) (p : Pair h g)
+module _ {h g : Held} (s : List ℕ) (c : Completion) (e : completion_of s ≡ Ok c) (v : Sound h) (p : Pair h g)
     (z : is_unexpected (verdict_of h.bridge c) ≡ false) (opens : is_open (missing_of h.bridge c.tag) (place_of h.bridge c.tag) ≡ true) where
   abbrev k : ℕ
   k = owner_of h.bridge c.tag
@@ -103,7 +103,7 @@ module _ {h g : Held} (s : List ℕ) (c : Completion) (e : completion_of s ≡ H
       → (place_of h.bridge c.tag + n ≤ slot_size) × (n ≤ length (useful_bytes (c.lower % 4) n (drop 12 s)))
   written small n q =
       let m = missing_of h.bridge c.tag in
-      let whole : Whole s (Header c) = rw e at (read_whole s) in
+      let whole : Whole s (Ok c) = rw e at (read_whole s) in
       let f : Fits c m (Good n) = subst (Fits c m) (sym (verdict_memory h.bridge c z (lt-ltb _ _ small)) ∙ q) (verdict_fits c m (next_address h.bridge c.tag) whole.0) in
       (omega (arith, f.most, open_room m (place_of h.bridge c.tag) opens), simp (length-take, length-drop) (omega (arith, f.inside, whole.1)))
 

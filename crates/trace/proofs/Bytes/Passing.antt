@@ -11,8 +11,8 @@ use lib.Seq.{paste}
 use Rattle.bits.specs.Bits.{is_set}
 use Rattle.tags.specs.Tags.{lowest}
 use Rattle.tags.proofs.Tags.{lowest_is}
+use Rattle.std.specs.Prelude.{Ok}
 use Rattle.tlp.specs.declared.completion.Completion.{Completion}
-use Rattle.tlp.specs.declared.completion.CompletionRead.TheVariants.{Header}
 use Rattle.burst.specs.declared.Burst.{Burst}
 use Rattle.verdict.specs.declared.Cause.{Cause}
 use Rattle.verdict.specs.declared.Cause.TheVariants.{Poison, Timeout}
@@ -113,7 +113,7 @@ module _ (r : Read) (h : Held) (w : Wire) where
   expires_sizes t x room (memory l a p) = (a.tables, omega (arith, ap length p, (closed_bytes (owner_of h.bridge t) (failed_in h.bridge (owner_of h.bridge t) t Timeout) h.store l room).room))
   expires_sizes t x room (config l a p) = ((a 0).tables, omega (arith, ap length p))
 
-  module _ (s : List ℕ) (c : Completion) (e : completion_of s ≡ Header c) (sound : Sound h) (m : Open h.bridge c.tag) (k : ℕ) (l : k < 8) (o : owner_of h.bridge c.tag ≡ k) (n : k ≢ r.slot) where
+  module _ (s : List ℕ) (c : Completion) (e : completion_of s ≡ Ok c) (sound : Sound h) (m : Open h.bridge c.tag) (k : ℕ) (l : k < 8) (o : owner_of h.bridge c.tag ≡ k) (n : k ≢ r.slot) where
     -- good data lies in its slot
     data_only : (n : ℕ) → memory_verdict c (missing_of h.bridge c.tag) (next_address h.bridge c.tag) ≡ Good n
         → BytesOnly k h.store (paste h.store (4096 * k + place_of h.bridge c.tag) (useful_bytes (c.lower % 4) n (drop 12 s)) n)

@@ -9,8 +9,8 @@ use lib.ListN.{length, get_or, drop, length-append, get_or-append}
 use lib.Seq.{paste, get_or-append-add}
 use lib.Dec.{leb}
 use borrow.Author.Tests.{eq-eqb}
+use Rattle.std.specs.Prelude.{Ok}
 use Rattle.tlp.specs.declared.completion.Completion.{Completion}
-use Rattle.tlp.specs.declared.completion.CompletionRead.TheVariants.{Header}
 use Rattle.burst.specs.Bursts.{length_of}
 use Rattle.burst.proofs.Tiling.{piece_within}
 use Rattle.verdict.specs.declared.Cause.{Cause}
@@ -39,7 +39,7 @@ closed_store_lem : (k n : ℕ) (s : Slot) (d : List ℕ) → Sane n s → closed
 closed_store_lem k n s d p = rw (eq-eqb s.cause 0 p.cause) (either (λ (y : List ℕ). y ≡ d) (leb s.pieces 1) refl refl)
 
 -- a completion for a tag of the read: its label is that of the tag's own request
-module _ (r : Read) (h : Held) (w : Wire) (es : List Event) (s : List ℕ) (c : Completion) (e : completion_of s ≡ Header c) (sound : Sound h) (waits : Waits r.slot h.bridge c.tag) where
+module _ (r : Read) (h : Held) (w : Wire) (es : List Event) (s : List ℕ) (c : Completion) (e : completion_of s ≡ Ok c) (sound : Sound h) (waits : Waits r.slot h.bridge c.tag) where
   abbrev gone : ℕ
   gone = missing_of h.bridge c.tag
 

@@ -10,9 +10,9 @@ use native.Mathlib.Decide.{dec_lt}
 use lib.ListN.{length, get_or, drop}
 use lib.Dec.{eqb}
 use borrow.Author.Tests.{eq-eqb, ne_eqb, lt-ltb}
+use Rattle.std.specs.Prelude.{Result, Ok, Err}
+use Rattle.refusals.specs.declared.Refusal.{Refusal}
 use Rattle.tlp.specs.declared.completion.Completion.{Completion}
-use Rattle.tlp.specs.declared.completion.CompletionRead.{CompletionRead}
-use Rattle.tlp.specs.declared.completion.CompletionRead.TheVariants.{Header, Malformed}
 use Rattle.burst.specs.declared.Burst.{Burst}
 use Rattle.verdict.specs.declared.Verdict.TheVariants.{Unexpected}
 use Rattle.machine.specs.State.{Bridge, Slot, slot_at, tag_count, slot_count, missing_of, owner_of, place_of, is_open, with_ticks, core_in, free_slot, response_of}
@@ -51,9 +51,9 @@ memory_verdict_lem b c r o l = rw (eq-eqb _ _ r, o, lt-ltb _ _ l)
 
 module _ (l a k : ℕ) where
   -- a completion that is refused fails nothing
-  missed_none : (o : Option Failure) (b : Bridge) (r : CompletionRead) → ((c : Completion) → r ≡ Header c → verdict_of b c ≡ Unexpected) → first_failed o (completion_fails l a k b r) ≡ o
-  missed_none o b (Header c) f = rw (f c refl) (nothing o (eqb (owner_of b c.tag) k))
-  missed_none o b Malformed f = refl
+  missed_none : (o : Option Failure) (b : Bridge) (r : Result Completion Refusal) → ((c : Completion) → r ≡ Ok c → verdict_of b c ≡ Unexpected) → first_failed o (completion_fails l a k b r) ≡ o
+  missed_none o b (Ok c) f = rw (f c refl) (nothing o (eqb (owner_of b c.tag) k))
+  missed_none o b (Err r) f = refl
 
   not_this : (h : Held) (j : ℕ) → take_refusal h.bridge (length h.store) j ≡ 0 → takes k h (event.call (event.release j)) ≡ false → j ≢ k
   not_this h j e f z = never (sym (rw (eq-eqb j k z, eq-eqb _ _ e)) ∙ f)

@@ -8,9 +8,11 @@ use native.Mathlib.Omega.{arith}
 use native.Mathlib.Decide.{ℕ_discrete}
 use lib.ListN.{drop}
 use lib.Dec.{eqb}
+use Rattle.std.specs.Prelude.{Result, Ok, Err}
+use Rattle.refusals.specs.declared.Refusal.{Refusal}
+use Rattle.refusals.specs.declared.Refusal.TheVariants.{Malformed}
+use Rattle.tlp.proofs.Short.{refused_malformed}
 use Rattle.tlp.specs.declared.completion.Completion.{Completion}
-use Rattle.tlp.specs.declared.completion.CompletionRead.{CompletionRead}
-use Rattle.tlp.specs.declared.completion.CompletionRead.TheVariants.{Header, Malformed}
 use Rattle.address.specs.declared.Settings.{Settings}
 use Rattle.parts.specs.Cores.{Core}
 use Rattle.parts.specs.declared.ConfigSlot.{ConfigSlot}
@@ -39,7 +41,7 @@ use Rattle.trace.proofs.Okay.Asks.{call_own}
 use Rattle.trace.proofs.Okay.Good.{Comes, read_misses, read_serves, word_comes, word_answers}
 
 -- what is malformed comes for no request
-paired_malformed : (j i : ℕ) (s : List ℕ) (es : List Event) → completion_of s ≡ Malformed → paired j (event.completion i s ∷ es) ≡ paired j es
+paired_malformed : (j i : ℕ) (s : List ℕ) (es : List Event) → completion_of s ≡ Err Malformed → paired j (event.completion i s ∷ es) ≡ paired j es
 paired_malformed j i s es e = by (eqb j i) refl
   where
     by : (z : Bool) → eqb j i ≡ z → paired j (event.completion i s ∷ es) ≡ paired j es
@@ -97,7 +99,7 @@ module _ (k r : ℕ) where
     abbrev after : ℕ → List (List ℕ)
     after t = paired (own_of w.live t) es
 
-    module _ (c : Completion) (reads : completion_of s ≡ Header c) where
+    module _ (c : Completion) (reads : completion_of s ≡ Ok c) where
       abbrev t : ℕ
       t = c.tag
 
@@ -174,9 +176,9 @@ module _ (k r : ℕ) where
         g : Spares 0 k b (core_in (with_registers y b.core) b)
         g = core_spares k b (with_registers y b.core) v.clock refl (λ z. refl)
 
-        by : (z : CompletionRead) → completion_of s ≡ z → On (core_in (with_registers y b.core) b) w es
-        by (Header c) e = came_on c e (core_in (with_registers y b.core) b) (spares_clean g o.clean) (λ u n. refl) (λ q. missed_due c e q (f c e))
-        by Malformed e = spares_on w w (event.completion i s) es g (λ t q. sym (paired_malformed (own_of w.live t) i s es e)) o
+        by : (z : Result Completion Refusal) → completion_of s ≡ z → On (core_in (with_registers y b.core) b) w es
+        by (Ok c) e = came_on c e (core_in (with_registers y b.core) b) (spares_clean g o.clean) (λ u n. refl) (λ q. missed_due c e q (f c e))
+        by (Err r) e = spares_on w w (event.completion i s) es g (λ t q. sym (paired_malformed (own_of w.live t) i s es (refused_malformed s r e))) o
     completion_on n (memories c u e r f l y j) =
         let m = open_missing _ _ f in
         let a = serving h c.tag v m (c.lower % 4) (drop 12 s) u l j in

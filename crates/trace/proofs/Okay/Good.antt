@@ -9,9 +9,9 @@ use lib.Dec.{ltb, leb, eqb}
 use lib.ListN.{length}
 use borrow.Author.Tests.{eqb-true, eq-eqb, ne_eqb, ltb-true, lt-ltb, le-ltb, le-leb, not-true}
 use Rattle.common.proofs.Tests.{row}
+use Rattle.std.specs.Prelude.{Result, Ok}
+use Rattle.refusals.specs.declared.Refusal.{Refusal}
 use Rattle.tlp.specs.declared.completion.Completion.{Completion}
-use Rattle.tlp.specs.declared.completion.CompletionRead.TheVariants.{Header}
-use Rattle.tlp.specs.declared.completion.CompletionRead.{CompletionRead}
 use Rattle.verdict.specs.declared.Verdict.{Verdict}
 use Rattle.verdict.specs.declared.Verdict.TheVariants.{Unexpected, Good, Poisoned}
 use Rattle.machine.specs.State.{Bridge, Slot, slot_at, missing_of, owner_of, failure_of, Open, is_write}
@@ -63,7 +63,7 @@ pub record Comes (sent : ℕ → List (List ℕ)) (h : Held) (w : Wire) (es : Li
   pub sound : Sound h
   pub wired : Wired sent h w (completion i s ∷ es)
   pub opens : Open h.bridge c.tag
-  pub reads : completion_of s ≡ Header c
+  pub reads : completion_of s ≡ Ok c
   pub first : paired (own_of w.live c.tag) (completion i s ∷ es) ≡ s ∷ l
 
 module _ {sent : ℕ → List (List ℕ)} {h : Held} {w : Wire} {es : List Event} {i : ℕ} {s : List ℕ} {c : Completion} {l : List (List ℕ)} (q : Comes sent h w es i s c l)
@@ -136,10 +136,10 @@ due_good r w s (x ∷ l) h f = absurd (omega arith)
 abbrev word_tests : Bool → Completion → List Bool
 word_tests w c = eqb c.status 0 ∷ not c.poisoned ∷ config_shape c w ∷ []
 
-word_ours : (r : ℕ) (w : Bool) (c : Completion) → is_good_word r w (Header c) ≡ true → c.requester ≡ r
+word_ours : (r : ℕ) (w : Bool) (c : Completion) → is_good_word r w (Ok c) ≡ true → c.requester ≡ r
 word_ours r w c e = eqb-true _ _ (row (eqb c.requester r) (word_tests w c) e).0
 
-word_verdict : (r : ℕ) (w : Bool) (c : Completion) → is_good_word r w (Header c) ≡ true → config_verdict c w ≡ Good 4
+word_verdict : (r : ℕ) (w : Bool) (c : Completion) → is_good_word r w (Ok c) ≡ true → config_verdict c w ≡ Good 4
 unfolding config_verdict
 word_verdict r w c e = let x = row (eqb c.requester r) (word_tests w c) e in rw (x.1.0, x.1.1.1.0, not-true c.poisoned x.1.1.0)
 
@@ -148,10 +148,10 @@ module _ {sent : ℕ → List (List ℕ)} {h : Held} {w : Wire} {es : List Event
   abbrev write : Bool
   write = is_write h.bridge c.tag
 
-  good : is_good_word r write (Header c) ≡ true
+  good : is_good_word r write (Ok c) ≡ true
   good =
       let one = ((q.wired.tags c.tag).opens q.opens).word high in
-      subst (λ (x : CompletionRead). is_good_word r write x ≡ true) q.reads (due_good r write s l (rw q.first at one) due)
+      subst (λ (x : Result Completion Refusal). is_good_word r write x ≡ true) q.reads (due_good r write s l (rw q.first at one) due)
 
   -- it is not refused
   pub word_comes : h.bridge.settings.requester ≡ r → verdict_of h.bridge c ≡ Unexpected → ⊥

@@ -4,8 +4,10 @@ use mathlib.Core.Path.{◌≡◌, refl, ap, ◌∙◌}
 use mathlib.Core.List.{List}
 use native.Mathlib.Omega.{arith}
 use lib.ListN.{length}
-use Rattle.tlp.specs.declared.completion.CompletionRead.{CompletionRead}
-use Rattle.tlp.specs.declared.completion.CompletionRead.TheVariants.{Header, Malformed}
+use Rattle.std.specs.Prelude.{Result, Ok, Err}
+use Rattle.refusals.specs.declared.Refusal.{Refusal}
+use Rattle.tlp.proofs.Short.{refused_malformed}
+use Rattle.tlp.specs.declared.completion.Completion.{Completion}
 use Rattle.machine.specs.State.{Slot, slot_at}
 use Rattle.machine.specs.Completions.{store_size, Held, held, completion_of, completed}
 use Rattle.machine.specs.Ticks.{link_lost, drop_slots}
@@ -32,6 +34,6 @@ drop_room h m =
     each_slot (λ n x. As h.store x.store) (held (link_lost h.bridge) h.store) refl
     (λ n x l p. ap length (drop_store n x) ∙ dropped_room n (slot_at x.bridge n) x.store l (omega arith) ∙ p)
 
-pub completed_room : (h : Held) (s : List ℕ) (r : CompletionRead) → completion_of s ≡ r → As h.store (completed h s).store
-completed_room h s (Header c) e = (own_slot_only h s c e).store.room
-completed_room h s Malformed e = ap (λ (x : Held). length x.store) (malformed_keeps h s e)
+pub completed_room : (h : Held) (s : List ℕ) (r : Result Completion Refusal) → completion_of s ≡ r → As h.store (completed h s).store
+completed_room h s (Ok c) e = (own_slot_only h s c e).store.room
+completed_room h s (Err r) e = ap (λ (x : Held). length x.store) (malformed_keeps h s (refused_malformed s r e))

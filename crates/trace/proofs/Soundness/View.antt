@@ -7,8 +7,8 @@ use mathlib.Core.Bool.{Bool, true, false, cond, not, ◌&&◌}
 use lib.ListN.{length, drop}
 use lib.Dec.{eqb}
 use borrow.Author.Tests.{eqb-true, eqb-false, le-ltb}
+use Rattle.std.specs.Prelude.{Ok}
 use Rattle.tlp.specs.declared.completion.Completion.{Completion}
-use Rattle.tlp.specs.declared.completion.CompletionRead.TheVariants.{Header}
 use Rattle.ecam.specs.Registers.{Registers, messaged}
 use Rattle.ecam.specs.declared.Route.{Route}
 use Rattle.ecam.specs.declared.Route.TheVariants.{OutOfRange, Local, Type0, Type1, NotRouted, DeviceNotZero}
@@ -46,14 +46,14 @@ pub data Move (h : Held) : Event → Held → Type 0 where
   idle : {c : Call} (r : Registers) → asked_by h c ≡ [] → r.link ≡ h.bridge.core.registers.link → Move h (event.call c) (registered h r)
   -- a completion that is refused
   missed : {i : ℕ} {s : List ℕ} (r : Registers)
-      → ((c : Completion) → completion_of s ≡ Header c → verdict_of h.bridge c ≡ Unexpected)
+      → ((c : Completion) → completion_of s ≡ Ok c → verdict_of h.bridge c ≡ Unexpected)
       → r.link ≡ h.bridge.core.registers.link
       → Move h (event.completion i s) (registered h r)
   reads : {q : Burst} {room : ℕ} → read_refusal h.bridge q room ≡ 0 → Move h (event.call (event.read q room)) (held (read_bridge h.bridge q) h.store)
   locals : {a : Access} {room : ℕ} (w : ℕ) → config_refusal h.bridge a room ≡ 0 → route_of h.bridge a ≡ Local w → Move h (event.call (event.config a room)) (held (local_bridge h.bridge a w) h.store)
   routes : {a : Access} {room : ℕ} → config_refusal h.bridge a room ≡ 0 → goes_out (route_of h.bridge a) ≡ true → Move h (event.call (event.config a room)) (held (routed_bridge h.bridge a) h.store)
   memories : {i : ℕ} {s : List ℕ} (c : Completion) (v : Verdict)
-      → completion_of s ≡ Header c
+      → completion_of s ≡ Ok c
       → Ours h.bridge c
       → is_open (missing_of h.bridge c.tag) (place_of h.bridge c.tag) ≡ true
       → owner_of h.bridge c.tag < 8
@@ -61,7 +61,7 @@ pub data Move (h : Held) : Event → Held → Type 0 where
       → is_unexpected v ≡ false
       → Move h (event.completion i s) (memory_completed h c.tag (owner_of h.bridge c.tag) (c.lower % 4) (drop 12 s) v)
   configs : {i : ℕ} {s : List ℕ} (c : Completion) (v : Verdict)
-      → completion_of s ≡ Header c
+      → completion_of s ≡ Ok c
       → Ours h.bridge c
       → is_open (missing_of h.bridge c.tag) (place_of h.bridge c.tag) ≡ true
       → 8 ≤ owner_of h.bridge c.tag
@@ -100,11 +100,11 @@ route_by h a room e DeviceNotZero r = absurd (eqb-false 11 0 refl (ap number_of 
 
 completion_by : (h : Held) (i : ℕ) (s : List ℕ) (x : Held) (n : ℕ) → store_size ≤ length h.store → Came h s x n → Move h (event.completion i s) x
 completion_by h i s x n l (short e) = absurd (omega arith)
-completion_by h i s x n l (malformed a e) = missed h.bridge.core.registers (λ c (f : completion_of s ≡ Header c). let z : ◌≡◌ {A = ℕ} 0 1 = cc in absurd (omega arith)) refl
+completion_by h i s x n l (malformed a e) = missed h.bridge.core.registers (λ c (f : completion_of s ≡ Ok c). let z : ◌≡◌ {A = ℕ} 0 1 = cc in absurd (omega arith)) refl
 completion_by h i s x n l (lost c a e f) =
     let o = raised_core_lem 21 h.bridge.core in
     by_registers (Move h (event.completion i s)) h (raised_core 21 h.bridge.core) o
-    (missed (raised_core 21 h.bridge.core).registers (λ d (g : completion_of s ≡ Header d). let z : c ≡ d = cc in ap (verdict_of h.bridge) (sym z) ∙ f) o.link)
+    (missed (raised_core 21 h.bridge.core).registers (λ d (g : completion_of s ≡ Ok d). let z : c ≡ d = cc in ap (verdict_of h.bridge) (sym z) ∙ f) o.link)
 completion_by h i s x n l (memory c v a e r o w f u) = memories c v e r o w f u
 completion_by h i s x n l (config c v a e r o w f u) = configs c v e r o w f u
 

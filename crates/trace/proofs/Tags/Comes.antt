@@ -10,8 +10,8 @@ use lib.Dec.{eqb, leb}
 use borrow.Author.Tests.{eqb-true, eq-eqb}
 use Rattle.bits.specs.Bits.{set_bit}
 use Rattle.common.proofs.Tests.{row, and_left}
+use Rattle.std.specs.Prelude.{Ok}
 use Rattle.tlp.specs.declared.completion.Completion.{Completion}
-use Rattle.tlp.specs.declared.completion.CompletionRead.TheVariants.{Header}
 use Rattle.parts.specs.Cores.{Core}
 use Rattle.verdict.specs.declared.Cause.{Cause}
 use Rattle.verdict.specs.declared.Verdict.{Verdict}
@@ -78,7 +78,7 @@ open_missing m p e z = no_way (sym (and_left (not (eqb m 0)) (leb (p + m) slot_s
 
 -- ---- a completion for an open tag
 
-module _ (sent : ℕ → List (List ℕ)) (h : Held) (w : Wire) (es : List Event) (i : ℕ) (s : List ℕ) (c : Completion) (e : completion_of s ≡ Header c)
+module _ (sent : ℕ → List (List ℕ)) (h : Held) (w : Wire) (es : List Event) (i : ℕ) (s : List ℕ) (c : Completion) (e : completion_of s ≡ Ok c)
     (g : Sound h) (m : Open h.bridge c.tag) (q : Paired w (completion i s)) (v : Wired sent h w (completion i s ∷ es)) where
   abbrev own : ℕ
   own = own_of w.live c.tag

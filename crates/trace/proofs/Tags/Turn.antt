@@ -8,9 +8,9 @@ use lib.ListN.{length, drop, length-take, length-drop}
 use lib.Dec.{eqb, ltb}
 use borrow.Author.Tests.{not-true}
 use Rattle.common.proofs.Tests.{row, and_left, and_right}
+use Rattle.std.specs.Prelude.{Result, Ok, Err}
+use Rattle.refusals.specs.declared.Refusal.{Refusal}
 use Rattle.tlp.specs.declared.completion.Completion.{Completion}
-use Rattle.tlp.specs.declared.completion.CompletionRead.{CompletionRead}
-use Rattle.tlp.specs.declared.completion.CompletionRead.TheVariants.{Header, Malformed}
 use Rattle.tlp.specs.Completion.{valid_completion}
 use Rattle.machine.specs.Verdict.{useful}
 use Rattle.machine.specs.Completions.{completion_of, useful_bytes}
@@ -49,28 +49,28 @@ some_length (lost h) = omega (arith, some_length h)
 -- ---- what a completion carries
 
 -- a completion that is read has its payload whole
-pub whole : (s : List ℕ) (c : Completion) → completion_of s ≡ Header c → (valid_completion c ≡ true) × (length s ≡ 12 + 4 * c.length)
+pub whole : (s : List ℕ) (c : Completion) → completion_of s ≡ Ok c → (valid_completion c ≡ true) × (length s ≡ 12 + 4 * c.length)
 whole s c e = subst (Whole s) e (read_whole s)
 
 -- data is some bytes at least, where any are left
-pub useful_some : (n : ℕ) (s : List ℕ) (c : Completion) → completion_of s ≡ Header c → carries c ≡ true → 0 < n → 0 < useful c n
+pub useful_some : (n : ℕ) (s : List ℕ) (c : Completion) → completion_of s ≡ Ok c → carries c ≡ true → 0 < n → 0 < useful c n
 useful_some n s c e f p =
     omega (arith, some_word c (whole s c e).0 (and_right (eqb c.status 0) c.payload f))
 
 -- and they stand in the payload
-pub useful_length : (n : ℕ) (s : List ℕ) (c : Completion) → completion_of s ≡ Header c → length (useful_bytes (c.lower % 4) (useful c n) (drop 12 s)) ≡ useful c n
+pub useful_length : (n : ℕ) (s : List ℕ) (c : Completion) → completion_of s ≡ Ok c → length (useful_bytes (c.lower % 4) (useful c n) (drop 12 s)) ≡ useful c n
 useful_length n s c e =
     omega (arith, length-take (useful c n) (drop (c.lower % 4) (drop 12 s)), length-drop (c.lower % 4) (drop 12 s), length-drop 12 s, (whole s c e).1)
 
 -- ---- what is stated, and what comes next
 
 -- the first of a list states what is left, if it carries data
-stated : {s y : List ℕ} (m : List (List ℕ)) (a n : ℕ) (c : Completion) → completion_of s ≡ Header c → s ≡ y → carries c ≡ true → InTurn a n m (completion_of y) → States a n c
+stated : {s y : List ℕ} (m : List (List ℕ)) (a n : ℕ) (c : Completion) → completion_of s ≡ Ok c → s ≡ y → carries c ≡ true → InTurn a n m (completion_of y) → States a n c
 stated m a n c e q f i =
     subst (λ (z : Bool). When z (States a n c)) f (subst (InTurn a n m) (ap completion_of (sym q) ∙ e) i).0
 
 -- no completion states more than is left
-pub states_most : {s : List ℕ} {l r : List (List ℕ)} (a n : ℕ) (c : Completion) → completion_of s ≡ Header c → carries c ≡ true → Sends a n r → Some (s ∷ l) r → c.count ≤ n
+pub states_most : {s : List ℕ} {l r : List (List ℕ)} (a n : ℕ) (c : Completion) → completion_of s ≡ Ok c → carries c ≡ true → Sends a n r → Some (s ∷ l) r → c.count ≤ n
 states_most a n c e f w (came {m = m} q h) = omega (arith, (stated m a n c e q f w.1).count)
 states_most a n c e f w (lost {x = y} h) = omega (arith, states_most (a + carried n y) (n - carried n y) c e f w.2 h)
 
@@ -83,9 +83,9 @@ pub record Next (a n : ℕ) (c : Completion) (s : List ℕ) (l r : List (List �
   pub comes : Some l left
 
 -- what carries no bytes has none
-none_carried : (n : ℕ) (y : List ℕ) → 0 < n → carried n y ≡ 0 → (r : CompletionRead) → completion_of y ≡ r → data_by n (drop 12 y) r ≡ []
-none_carried n y p z Malformed e = refl
-none_carried n y p z (Header d) e = by (carries d) refl
+none_carried : (n : ℕ) (y : List ℕ) → 0 < n → carried n y ≡ 0 → (r : Result Completion Refusal) → completion_of y ≡ r → data_by n (drop 12 y) r ≡ []
+none_carried n y p z (Err r) e = refl
+none_carried n y p z (Ok d) e = by (carries d) refl
   where
     by : (b : Bool) → carries d ≡ b → cond b (useful_bytes (d.lower % 4) (useful d n) (drop 12 y)) [] ≡ []
     by true f = let u : carried n y ≡ useful d n = rw (e, f) in absurd (omega (arith, useful_some n y d e f p))
@@ -103,7 +103,7 @@ skips a n y p z x =
       comes = x.comes;
     }
 
-module _ (c : Completion) (s : List ℕ) (l : List (List ℕ)) (e : completion_of s ≡ Header c) (f : carries c ≡ true) where
+module _ (c : Completion) (s : List ℕ) (l : List (List ℕ)) (e : completion_of s ≡ Ok c) (f : carries c ≡ true) where
   -- what is sent before data comes carries nothing, where more than is left after it would come
   next_by : {r : List (List ℕ)} (a n : ℕ) → ((y : List ℕ) (m : List (List ℕ)) → 0 < n → Sends (a + carried n y) (n - carried n y) m → Some (s ∷ l) m → carried n y ≡ 0)
       → Sends a n r → Some (s ∷ l) r → Next a n c s l r
@@ -128,7 +128,7 @@ module _ (c : Completion) (s : List ℕ) (l : List (List ℕ)) (e : completion_o
       next_by a n (λ y m p v k. omega (arith, states_most (a + carried n y) (n - carried n y) c e f v k)) w h
 
 -- nothing follows a failing status
-pub last_comes : {s : List ℕ} {l r : List (List ℕ)} (a n : ℕ) (c : Completion) → completion_of s ≡ Header c → fails c ≡ true → Sends a n r → Some (s ∷ l) r → l ≡ []
+pub last_comes : {s : List ℕ} {l r : List (List ℕ)} (a n : ℕ) (c : Completion) → completion_of s ≡ Ok c → fails c ≡ true → Sends a n r → Some (s ∷ l) r → l ≡ []
 last_comes a n c e f w (came {m = m} q h) =
     let i = subst (InTurn a n m) (ap completion_of (sym q) ∙ e) w.1 in
     some_none (rw (subst (λ (z : Bool). When z (m ≡ [])) f i.1) at h)
@@ -146,9 +146,9 @@ good_carries r c e =
     (row (eqb c.requester r) (carries c ∷ not c.poisoned ∷ ltb (4 * c.length) (c.lower % 4 + c.count + 4) ∷ []) e).1.0
 
 -- the first of a list and g more that come
-good_first : (requester a n g : ℕ) (m : List (List ℕ)) (r : CompletionRead) → InTurn a n m r → g ≤ n - carried_by n r → good_by requester r + g ≤ n
-good_first q a n g m Malformed i l = omega arith
-good_first q a n g m (Header c) i l = by (is_good q c) refl
+good_first : (requester a n g : ℕ) (m : List (List ℕ)) (r : Result Completion Refusal) → InTurn a n m r → g ≤ n - carried_by n r → good_by requester r + g ≤ n
+good_first q a n g m (Err r) i l = omega arith
+good_first q a n g m (Ok c) i l = by (is_good q c) refl
   where
     by : (b : Bool) → is_good q c ≡ b → cond b (useful c c.count) 0 + g ≤ n
     by false f = omega arith
@@ -166,7 +166,7 @@ good_most q a n w (came {x = x} {y = y} {l = l} {m = m} e h) =
     good_first q a n (good_bytes q l) m (completion_of x) (rw (sym e) at w.1) (omega (arith, good_most q (a + carried n y) (n - carried n y) w.2 h))
 good_most q a n w (lost {x = y} h) = omega (arith, good_most q (a + carried n y) (n - carried n y) w.2 h)
 
-pub good_none : (requester : ℕ) (s : List ℕ) (c : Completion) → completion_of s ≡ Header c → carries c ≡ false → good_by requester (completion_of s) ≡ 0
+pub good_none : (requester : ℕ) (s : List ℕ) (c : Completion) → completion_of s ≡ Ok c → carries c ≡ false → good_by requester (completion_of s) ≡ 0
 good_none q s c e f = by (is_good q c) refl
   where
     by : (b : Bool) → is_good q c ≡ b → good_by q (completion_of s) ≡ 0
@@ -179,7 +179,7 @@ pub record GoodNext (requester a n : ℕ) (c : Completion) : Type 0 where
   pub count : c.count ≡ n
   pub lower : c.lower ≡ a % 128
 
-module _ (requester : ℕ) (c : Completion) (s : List ℕ) (l : List (List ℕ)) (e : completion_of s ≡ Header c) (f : carries c ≡ true) where
+module _ (requester : ℕ) (c : Completion) (s : List ℕ) (l : List (List ℕ)) (e : completion_of s ≡ Ok c) (f : carries c ≡ true) where
   is_good_lem : {a n : ℕ} {r : List (List ℕ)} → 0 < n → Next a n c s l r → n ≤ good_bytes requester (s ∷ l) → (b : Bool) → is_good requester c ≡ b → is_good requester c ≡ true
   is_good_lem p x g true t = t
   is_good_lem {a} {n} p x g false t =
@@ -195,7 +195,7 @@ fails_carries : (c : Completion) → fails c ≡ true → carries c ≡ false
 fails_carries c e = rw (not-true (eqb c.status 0) (and_left (not (eqb c.status 0)) (not (eqb c.status 2)) e))
 
 -- and none fails
-pub good_not_fails : {s : List ℕ} {l r : List (List ℕ)} (requester a n : ℕ) (c : Completion) → completion_of s ≡ Header c → 0 < n → Sends a n r → Some (s ∷ l) r → n ≤ good_bytes requester (s ∷ l) → fails c ≡ true → ⊥
+pub good_not_fails : {s : List ℕ} {l r : List (List ℕ)} (requester a n : ℕ) (c : Completion) → completion_of s ≡ Ok c → 0 < n → Sends a n r → Some (s ∷ l) r → n ≤ good_bytes requester (s ∷ l) → fails c ≡ true → ⊥
 good_not_fails {s} {l} q a n c e p w h g f =
     let z : good_bytes q l ≡ 0 = ap (good_bytes q) (last_comes a n c e f w h) in
     omega (arith, good_none q s c e (fails_carries c f))

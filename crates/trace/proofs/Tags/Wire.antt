@@ -9,8 +9,8 @@ use native.Mathlib.Decide.{ℕ_discrete}
 use lib.ListN.{length, drop, length-append}
 use lib.Dec.{eqb}
 use borrow.Author.Tests.{eq-eqb, ne_eqb}
+use Rattle.std.specs.Prelude.{Ok}
 use Rattle.tlp.specs.declared.completion.Completion.{Completion}
-use Rattle.tlp.specs.declared.completion.CompletionRead.TheVariants.{Header}
 use Rattle.machine.specs.State.{Bridge, Tag, slot_count, tag_at, Open}
 use Rattle.machine.specs.Verdict.{useful}
 use Rattle.machine.specs.Completions.{Held, completion_of, useful_bytes}
@@ -44,7 +44,7 @@ later i (link up) es = some_all (paired i es)
 later_none : (i : ℕ) (e : Event) (es : List Event) → paired i (e ∷ es) ≡ [] → paired i es ≡ []
 later_none i e es q = some_none (subst (Some (paired i es)) q (later i e es))
 
-pub paired_own : (i : ℕ) (s : List ℕ) (c : Completion) (es : List Event) → completion_of s ≡ Header c → paired i (completion i s ∷ es) ≡ s ∷ paired i es
+pub paired_own : (i : ℕ) (s : List ℕ) (c : Completion) (es : List Event) → completion_of s ≡ Ok c → paired i (completion i s ∷ es) ≡ s ∷ paired i es
 paired_own i s c es e = rw (eq-eqb i i refl, e)
 
 pub paired_other : (i j : ℕ) (s : List ℕ) (es : List Event) → i ≢ j → paired i (completion j s ∷ es) ≡ paired i es
@@ -96,7 +96,7 @@ module _ (sent : ℕ → List (List ℕ)) where
 
   -- a completion that comes answers its tag's present request, whatever the tag does
   pub present_comes : (h : Held) (w : Wire) (i : ℕ) (s : List ℕ) (c : Completion) (es : List Event) → Wired h w (completion i s ∷ es) → Paired w (completion i s)
-      → completion_of s ≡ Header c → i ≡ own_of w.live c.tag
+      → completion_of s ≡ Ok c → i ≡ own_of w.live c.tag
   present_comes h w i s c es v p e = by (ℕ_discrete i (own_of w.live c.tag))
     where
       by : Dec (i ≡ own_of w.live c.tag) → i ≡ own_of w.live c.tag
@@ -136,7 +136,7 @@ module _ (sent : ℕ → List (List ℕ)) where
     pub lower : c.lower ≡ a % 128
 
   pub flow_next : (es : List Event) (i n a m : ℕ) (c : Completion) (s : List ℕ) (f : Flow (completion i s ∷ es) i n a m)
-      → completion_of s ≡ Header c → carries c ≡ true → c.count ≡ m → Flows es i n a m c s f
+      → completion_of s ≡ Ok c → carries c ≡ true → c.count ≡ m → Flows es i n a m c s f
   flow_next es i n a m c s f e d q =
       let x = next_comes c s (paired i es) e d a m q f.sends (rw (paired_own i s c es e) at f.comes) in
       let b = useful_bytes (c.lower % 4) (useful c m) (drop 12 s) in

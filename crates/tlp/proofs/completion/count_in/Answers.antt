@@ -1,8 +1,0 @@
-use borrow.Author.Tests.{eq-eqb, ne_eqb}
-use Rattle.tlp.proofs.completion.count_in.Goals as goal
-
-pub returns-then-field-eq0 : goal.returns-then-field-eq0
-returns-then-field-eq0 c = rw (eq-eqb _ _ c.if-field-eq0.true)
-
-pub returns : goal.returns
-returns c = rw (ne_eqb _ _ c.if-field-eq0.false)
