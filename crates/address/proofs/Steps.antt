@@ -1,10 +1,9 @@
 -- One turn of each walk, and tests that come to the same.
-use Rattle.std.proofs.Common.{◌≡◌, ℕ, zero, suc, ◌+◌, ◌-◌, ◌*◌, ◌%◌, ◌^◌, ◌<◌, ◌≤◌, Bool, true, false, ◌&&◌, ◌||◌, eqb, leb, List, get_or, sym, refl, ap, ◌∙◌, one-mul, add-one, arith, lit<, pow_pos, shl_exact, eq-eqb, ne_eqb, eqb-true, le-leb, leb-true, le-ltb}
+use Rattle.std.proofs.Common.{◌≡◌, ◌≢◌, ℕ, zero, suc, ◌+◌, ◌-◌, ◌*◌, ◌%◌, ◌^◌, ◌<◌, ◌≤◌, Bool, true, false, ◌&&◌, ◌||◌, eqb, leb, Some, None, List, get_or, sym, refl, ap, ◌∙◌, one-mul, add-one, arith, lit<, pow_pos, shl_exact, eq-eqb, ne_eqb, eqb-true, le-leb, leb-true, le-ltb}
 use borrow.Author.Tests.{lt-leb}
 use mathlib.Core.Bool.{false≢true}
 use native.Mathlib.Decide.{ℕ_discrete}
 use Rattle.address.specs.declared.AxiAddress.{AxiAddress}
-use Rattle.address.specs.declared.Found.TheVariants.{At, Nothing}
 use Rattle.address.specs.Windows.{holds, first_from}
 use Rattle.address.specs.declared.Windows.{Windows}
 use Rattle.address.specs.declared.Settings.{Settings}
@@ -78,11 +77,11 @@ one_shl k w h = shl_exact {a = 1} 1 k w (lit< tt) (omega arith) ∙ one-mul (2 ^
 
 -- a walk that looks for a window
 module _ (base size : List ℕ) (a : AxiAddress) where
-  pub first_none : (i : ℕ) → first_from base size a i 0 ≡ Nothing
+  pub first_none : (i : ℕ) → first_from base size a i 0 ≡ None
   unfolding first_from
   first_none i = refl
 
-  pub first_hit : (i n : ℕ) → holds (get_or base i 0) (get_or size i 0) a ≡ true → first_from base size a i (suc n) ≡ At i
+  pub first_hit : (i n : ℕ) → holds (get_or base i 0) (get_or size i 0) a ≡ true → first_from base size a i (suc n) ≡ Some i
   unfolding first_from
   first_hit i n e = rw e
 
@@ -107,6 +106,16 @@ pub power_found : (low n x : ℕ) → power_among low n x ≡ true → Power low
 unfolding power_among
 power_found low zero x e = absurd (false≢true e)
 power_found low (suc n) x e = power_split low n x (eqb x (2 ^ low)) refl (power_found (suc low) n x) e
+
+pub power_in : (low n x k : ℕ) → low ≤ k → k < low + n → x ≡ 2 ^ k → power_among low n x ≡ true
+power_in low zero x k h g e = absurd (omega arith)
+power_in low (suc n) x k h g e = by (ℕ_discrete x (2 ^ low)) (λ d. power_in (low + 1) n x k d (omega arith) e)
+  where
+    by : Dec (x ≡ 2 ^ low) → (low + 1 ≤ k → power_among (low + 1) n x ≡ true) → power_among low (suc n) x ≡ true
+    by (yes p) f = power_hit low n x p
+    by (no p) f =
+        let d : low ≢ k = λ q. p (e ∙ ap (λ (j : ℕ). 2 ^ j) (sym q)) in
+        power_on low n x p ∙ f (omega (arith, d))
 
 pub power_pos : (low n x : ℕ) → power_among low n x ≡ true → 0 < x
 power_pos low n x e = let p = power_found low n x e in rw p.is (pow_pos p.exponent)
