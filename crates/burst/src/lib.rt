@@ -1,7 +1,7 @@
 // What a burst covers, its cut at a limit, and the words and byte enables of its pieces.
 #![tactic(auto)]
 
-ghost use Rattle.std.specs.Prelude.{◌≡◌, ◌+◌, ◌*◌, ◌^◌, ◌≤◌, ◌<◌, min, length, take, drop, replicate};
+ghost use Rattle.std.specs.Prelude.{◌≡◌, ◌+◌, ◌*◌, ◌^◌, ◌≤◌, ◌<◌, min, length};
 ghost use Rattle.std.proofs.Math.Seq.{paste};
 ghost use Rattle.refusals.specs.Refusals.{number_in};
 ghost use Rattle.burst.specs.Bursts.{end_from, burst_right, burst_number, length_of, data_number};
@@ -192,14 +192,15 @@ pub fn last_enables(a: u64, n: u32) -> u32
     enables_of(0, ((a % 4 + u64::from(n) + 3) % 4 + 1) as u32)
 }
 
-// The words of the n bytes of src from a place on, which go to address a, put into dst from at on.
-pub fn put_words(dst: &mut [u8], at: usize, a: u64, src: &[u8], from: usize, n: usize)
-    requires { (at + 4 * word_count a n ≤ length dst.old) × (from + n ≤ length src.now) }
-    ensures { dst.new ≡ paste dst.old at (words_of a (take n (drop from src.now))) (4 * word_count a n) }
+// The words of the bytes of src, which go to address a, put into dst from at on.
+#[tactic(auto, unfolding(crate::specs::Words::word_count))]
+pub fn put_words(dst: &mut [u8], at: usize, a: u64, src: &[u8])
+    requires { at + 4 * word_count a (length src.now) ≤ length dst.old }
+    ensures { dst.new ≡ paste dst.old at (words_of a src.now) (4 * word_count a (length src.now)) }
 {
     let low = (a % 4) as usize;
-    let words = at + (low + n + 3) / 4 * 4;
-    dst[at..words].fill(0);
+    let end = at + (low + src.len() + 3) / 4 * 4;
+    dst[at..end].fill(0);
     let first = at + low;
-    dst[first..first + n].copy_from_slice(&src[from..from + n]);
+    dst[first..first + src.len()].copy_from_slice(src);
 }

@@ -1,4 +1,4 @@
-use mathlib.Core.Path.{◌≡◌, ap, ◌∙◌}
+use mathlib.Core.Path.{◌≡◌, refl, ap, ◌∙◌}
 use Prim.Native.Nat.{◌+◌, ◌-◌, ◌*◌, ◌/◌, ◌%◌}
 use native.Mathlib.Omega.{arith}
 use lib.ListN.{length, take, drop, replicate, length-drop}
@@ -10,26 +10,17 @@ use Rattle.burst.specs.Words.{word_count}
 use Rattle.burst.proofs.Paste.{put_words}
 use Rattle.burst.proofs.put_words.Goals as goal
 
-pub overflow_add-words-3 : goal.overflow_add-words-3
-unfolding word_count
-overflow_add-words-3 c = omega arith
-
-pub slice_bounds-fill-end : goal.slice_bounds-fill-end
-unfolding word_count
-slice_bounds-fill-end c = omega arith
-
 pub returns : goal.returns
 unfolding word_count
 returns c =
     let d = c.args.dst.now in
     let at = c.args.at in
     let a = c.args.a in
-    let n = c.args.n in
+    let s = c.args.src.now in
+    let n = length s in
     let m = (a % 4 + n + 3) / 4 * 4 in
-    let s = take n (drop c.args.from c.args.src.now) in
     let z = put_mid at (at + m - at) d c.fill.new.self in
     let zeros : z ≡ paste d at (replicate m 0) m = search (rules, put_mid-paste) in
     let copied : put_mid (at + a % 4) (at + a % 4 + n - (at + a % 4)) z c.copy_from_slice.new.self ≡ paste z (at + a % 4) s n = search (rules, put_mid-paste) in
-    let e : length s ≡ n = length-take-le n (drop c.args.from c.args.src.now) (simp length-drop (omega arith)) in
     let g : m ≡ 4 * word_count a n = omega arith in
-    copied ∙ ap (λ x. paste x (at + a % 4) s n) zeros ∙ put_words d at a m n s e g (omega arith)
+    copied ∙ ap (λ x. paste x (at + a % 4) s n) zeros ∙ put_words d at a m n s refl g (omega arith)
