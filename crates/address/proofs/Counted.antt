@@ -1,32 +1,30 @@
 -- A walk over some windows and the longer walk over all six: the count may be looked at last.
-use Rattle.std.proofs.Common.{◌≡◌, ℕ, zero, suc, ◌+◌, ◌<◌, ◌≤◌, min, Bool, true, false, cond, ltb, List, get_or, sym, refl, ap, ◌∙◌, arith, le-ltb, lt-ltb}
+use Rattle.std.proofs.Common.{◌≡◌, ℕ, zero, suc, ◌+◌, ◌<◌, ◌≤◌, min, Bool, true, false, cond, ltb, Option, Some, None, List, get_or, sym, refl, ap, ◌∙◌, arith, le-ltb, lt-ltb}
 use Rattle.address.specs.declared.AxiAddress.{AxiAddress}
-use Rattle.address.specs.declared.Found.{Found}
-use Rattle.address.specs.declared.Found.TheVariants.{At, Nothing}
 use Rattle.address.specs.Windows.{holds, first_from, window_of}
 use Rattle.address.specs.Code.Entries.{entry_number}
 use Rattle.address.proofs.Steps.{first_none, first_hit, first_on}
 use Rattle.address.proofs.Laws.{first_at}
 
 -- what is found below n counts, the rest does not
-abbrev below : ℕ → Found → Found
-below n (At i) = cond (ltb i n) (At i) Nothing
-below n Nothing = Nothing
+abbrev below : ℕ → Option ℕ → Option ℕ
+below n (Some i) = cond (ltb i n) (Some i) None
+below n None = None
 
 -- what is found, by its number
-found_at : (f : Found) → entry_number f < 6 → f ≡ At (entry_number f)
-found_at (At i) h = refl
-found_at Nothing h = absurd (omega arith)
+found_at : (f : Option ℕ) → entry_number f < 6 → f ≡ Some (entry_number f)
+found_at (Some i) h = refl
+found_at None h = absurd (omega arith)
 
-not_below : (n : ℕ) (f : Found) → n ≤ entry_number f → below n f ≡ Nothing
-not_below n (At i) h = rw (le-ltb i n h)
-not_below n Nothing h = refl
+not_below : (n : ℕ) (f : Option ℕ) → n ≤ entry_number f → below n f ≡ None
+not_below n (Some i) h = rw (le-ltb i n h)
+not_below n None h = refl
 
 module _ (base size : List ℕ) (a : AxiAddress) where
   -- a walk finds nothing before its start
-  not_before : (i n k : ℕ) → k ≤ i → (f : Found) → first_from base size a i n ≡ f → below k f ≡ Nothing
-  not_before i n k h (At j) e = rw (le-ltb j k (omega (arith, (first_at base size a i n j e).0)))
-  not_before i n k h Nothing e = refl
+  not_before : (i n k : ℕ) → k ≤ i → (f : Option ℕ) → first_from base size a i n ≡ f → below k f ≡ None
+  not_before i n k h (Some j) e = rw (le-ltb j k (omega (arith, (first_at base size a i n j e).0)))
+  not_before i n k h None e = refl
 
   -- a walk of m windows is a longer one of which only what lies before the m-th counts
   cut_walk : (i m n : ℕ) → m ≤ n → (t : Bool) → holds (get_or base i 0) (get_or size i 0) a ≡ t → first_from base size a i m ≡ below (i + m) (first_from base size a i n)
@@ -49,10 +47,10 @@ module _ (base size : List ℕ) (a : AxiAddress) where
       cut_walk 0 (min count 6) 6 (omega arith) (holds (get_or base 0 0) (get_or size 0 0) a) refl
       ∙ ap (λ (x : ℕ). below x (first_from base size a 0 6)) f
 
-  pub found_counts : (count e : ℕ) → e ≡ entry_number (window_of 6 base size a) → e < 6 → e < count → At e ≡ window_of count base size a
+  pub found_counts : (count e : ℕ) → e ≡ entry_number (window_of 6 base size a) → e < 6 → e < count → Some e ≡ window_of count base size a
   found_counts count e h f g =
-      let at : window_of 6 base size a ≡ At e = rw (← h) at (found_at (window_of 6 base size a) (rw (← h) f)) in
+      let at : window_of 6 base size a ≡ Some e = rw (← h) at (found_at (window_of 6 base size a) (rw (← h) f)) in
       sym (counted count ∙ ap (below (min count 6)) at ∙ rw (lt-ltb e (min count 6) (omega arith)))
 
-  pub found_past : (count e : ℕ) → e ≡ entry_number (window_of 6 base size a) → min count 6 ≤ e → Nothing ≡ window_of count base size a
+  pub found_past : (count e : ℕ) → e ≡ entry_number (window_of 6 base size a) → min count 6 ≤ e → None ≡ window_of count base size a
   found_past count e h f = sym (counted count ∙ not_below (min count 6) (window_of 6 base size a) (rw (← h) f))

@@ -1,5 +1,5 @@
 -- The laws on settings, windows and translation.
-use Rattle.std.proofs.Common.{◌≡◌, ℕ, zero, suc, ◌+◌, ◌-◌, ◌*◌, ◌/◌, ◌%◌, ◌^◌, ◌<◌, ◌≤◌, min, max, Bool, true, false, cond, eqb, ltb, leb, List, get_or, sym, refl, ap, ◌∙◌, mul-le-mul_right, mod-eq_of_lt, div-add-mod', arith, pow_mono, pow-add, ltb-true, lt-ltb, eqb-true, le-leb, leb-false, leb-true}
+use Rattle.std.proofs.Common.{◌≡◌, ℕ, zero, suc, ◌+◌, ◌-◌, ◌*◌, ◌/◌, ◌%◌, ◌^◌, ◌<◌, ◌≤◌, min, max, Bool, true, false, cond, eqb, ltb, leb, Option, Some, None, List, get_or, sym, refl, ap, ◌∙◌, mul-le-mul_right, mod-eq_of_lt, div-add-mod', arith, pow_mono, pow-add, ltb-true, lt-ltb, eqb-true, le-leb, leb-false, leb-true}
 use mathlib.Core.Bool.{false≢true}
 use native.Mathlib.Nat.{lt_of_mul-lt-mul_left, mod_self}
 use native.Mathlib.Decide.{dec_lt, ℕ_discrete}
@@ -7,8 +7,6 @@ use lib.Pow.{mod-mod-pow}
 use Rattle.address.specs.declared.AxiAddress.{AxiAddress}
 use Rattle.address.specs.declared.Windows.{Windows}
 use Rattle.address.specs.declared.Settings.{Settings}
-use Rattle.address.specs.declared.Found.{Found}
-use Rattle.address.specs.declared.Found.TheVariants.{At, Nothing}
 use Rattle.address.specs.Windows.{axi, holds, first_from, window_of, translated, holds_at}
 use Rattle.address.specs.Settings.{between, each, power_of_two, each_from, window_right, apart, right_at, apart_at, windows_right, settings_right, settings_number, power_among}
 use Rattle.address.specs.Laws.{ExampleAccepted, AcceptedWindows, Limit, AcceptedReads, AcceptedWrites, FoundHolds, NothingHolds, AtMostOneHolds, OverlapShares, HolderFound, PageInOneWindow, WindowEnds, KeepsOffset, KeepsLowBits, KeepsOrder, StaysDistinct}
@@ -193,22 +191,22 @@ overlap_shares b s b₂ s₂ h g e = shares b s b₂ s₂ h g (leb b b₂) refl 
 
 module _ (b s : List ℕ) (a : AxiAddress) where
   at_turn : (i n k : ℕ) (t : Bool) → holds (get_or b i 0) (get_or s i 0) a ≡ t
-      → (first_from b s a (suc i) n ≡ At k → (suc i ≤ k) × (k < suc i + n) × (holds (get_or b k 0) (get_or s k 0) a ≡ true))
-      → cond t (At i) (first_from b s a (suc i) n) ≡ At k
+      → (first_from b s a (suc i) n ≡ Some k → (suc i ≤ k) × (k < suc i + n) × (holds (get_or b k 0) (get_or s k 0) a ≡ true))
+      → cond t (Some i) (first_from b s a (suc i) n) ≡ Some k
       → (i ≤ k) × (k < i + suc n) × (holds (get_or b k 0) (get_or s k 0) a ≡ true)
   at_turn i n k true e f g =
       let p : i ≡ k = cc in
       (omega arith, omega arith, ap (λ (m : ℕ). holds (get_or b m 0) (get_or s m 0) a) (sym p) ∙ e)
   at_turn i n k false e f g = let p = f g in (omega arith, omega arith, p.2)
 
-  pub first_at : (i n k : ℕ) → first_from b s a i n ≡ At k → (i ≤ k) × (k < i + n) × (holds (get_or b k 0) (get_or s k 0) a ≡ true)
+  pub first_at : (i n k : ℕ) → first_from b s a i n ≡ Some k → (i ≤ k) × (k < i + n) × (holds (get_or b k 0) (get_or s k 0) a ≡ true)
   unfolding first_from
   first_at i zero k e = let z : ◌≡◌ {A = ℕ} 0 1 = cc in absurd (omega arith)
   first_at i (suc n) k e = at_turn i n k (holds (get_or b i 0) (get_or s i 0) a) refl (first_at (suc i) n k) e
 
   none_turn : (i n : ℕ) (t : Bool) → holds (get_or b i 0) (get_or s i 0) a ≡ t
-      → (first_from b s a (suc i) n ≡ Nothing → (k : ℕ) → suc i ≤ k → k < suc i + n → holds (get_or b k 0) (get_or s k 0) a ≡ false)
-      → cond t (At i) (first_from b s a (suc i) n) ≡ Nothing
+      → (first_from b s a (suc i) n ≡ None → (k : ℕ) → suc i ≤ k → k < suc i + n → holds (get_or b k 0) (get_or s k 0) a ≡ false)
+      → cond t (Some i) (first_from b s a (suc i) n) ≡ None
       → (k : ℕ) → i ≤ k → k < i + suc n → holds (get_or b k 0) (get_or s k 0) a ≡ false
   none_turn i n true e f g k h l = let z : ◌≡◌ {A = ℕ} 0 1 = cc in absurd (omega arith)
   none_turn i n false e f g k h l = by (ℕ_discrete i k)
@@ -217,7 +215,7 @@ module _ (b s : List ℕ) (a : AxiAddress) where
       by (yes p) = ap (λ (m : ℕ). holds (get_or b m 0) (get_or s m 0) a) (sym p) ∙ e
       by (no p) = f g k (omega (arith, p)) (omega arith)
 
-  none_at : (i n : ℕ) → first_from b s a i n ≡ Nothing → (k : ℕ) → i ≤ k → k < i + n → holds (get_or b k 0) (get_or s k 0) a ≡ false
+  none_at : (i n : ℕ) → first_from b s a i n ≡ None → (k : ℕ) → i ≤ k → k < i + n → holds (get_or b k 0) (get_or s k 0) a ≡ false
   unfolding first_from
   none_at i zero e k h l = absurd (omega arith)
   none_at i (suc n) e k h l = none_turn i n (holds (get_or b i 0) (get_or s i 0) a) refl (none_at (suc i) n) e k h l
@@ -242,9 +240,9 @@ nothing_holds w a e i h g = none_at w.base w.size a 0 (min w.count 6) e i (omega
 pub holder_found : HolderFound
 holder_found w r a i h g = by (window_of w.count w.base w.size a) refl
   where
-    by : (f : Found) → window_of w.count w.base w.size a ≡ f → window_of w.count w.base w.size a ≡ At i
-    by (At j) e = let p = found_holds w a j e in e ∙ ap At (at_most_one_holds w r a j i p.0 h p.1 g)
-    by Nothing e = absurd (false≢true (sym (nothing_holds w a e i h (omega (arith, count_six w r))) ∙ g))
+    by : (f : Option ℕ) → window_of w.count w.base w.size a ≡ f → window_of w.count w.base w.size a ≡ Some i
+    by (Some j) e = let p = found_holds w a j e in e ∙ ap Some (at_most_one_holds w r a j i p.0 h p.1 g)
+    by None e = absurd (false≢true (sym (nothing_holds w a e i h (omega (arith, count_six w r))) ∙ g))
 
 -- ## Pages and translation
 

@@ -1,3 +1,4 @@
+pub mod Ranges
 pub mod Steps
 pub mod Counted
 pub mod Laws

@@ -1,10 +1,9 @@
 -- One turn of each walk, and tests that come to the same.
-use Rattle.std.proofs.Common.{◌≡◌, ℕ, zero, suc, ◌+◌, ◌-◌, ◌*◌, ◌%◌, ◌^◌, ◌<◌, ◌≤◌, Bool, true, false, ◌&&◌, ◌||◌, eqb, leb, List, get_or, sym, refl, ap, ◌∙◌, one-mul, add-one, arith, lit<, pow_pos, shl_exact, eq-eqb, ne_eqb, eqb-true, le-leb, leb-true, le-ltb}
+use Rattle.std.proofs.Common.{◌≡◌, ◌≢◌, ℕ, zero, suc, ◌+◌, ◌-◌, ◌*◌, ◌%◌, ◌^◌, ◌<◌, ◌≤◌, Bool, true, false, ◌&&◌, ◌||◌, eqb, leb, Some, None, List, get_or, sym, refl, ap, ◌∙◌, one-mul, add-one, arith, lit<, pow_pos, shl_exact, eq-eqb, ne_eqb, eqb-true, le-leb, leb-true, le-ltb}
 use borrow.Author.Tests.{lt-leb}
 use mathlib.Core.Bool.{false≢true}
 use native.Mathlib.Decide.{ℕ_discrete}
 use Rattle.address.specs.declared.AxiAddress.{AxiAddress}
-use Rattle.address.specs.declared.Found.TheVariants.{At, Nothing}
 use Rattle.address.specs.Windows.{holds, first_from}
 use Rattle.address.specs.declared.Windows.{Windows}
 use Rattle.address.specs.declared.Settings.{Settings}
@@ -26,28 +25,11 @@ pub and_right : (x y : Bool) → x && y ≡ true → y ≡ true
 and_right true y e = e
 and_right false y e = absurd (false≢true e)
 
-pub and_true : (x : Bool) → x ≡ x && true
-and_true true = refl
-and_true false = refl
-
 -- a sum compared by the difference
 pub leb_sub : (b s o : ℕ) → b ≤ o → leb s (o - b) ≡ leb (b + s) o
 leb_sub b s o h =
     same_test (leb s (o - b)) (leb (b + s) o) (λ e. le-leb (b + s) o (omega (arith, leb-true s (o - b) e)))
     (λ e. le-leb s (o - b) (omega (arith, leb-true (b + s) o e)))
-
--- a walk that tests each number
-pub each_none : (t : ℕ → Bool) (i : ℕ) → each_from t i 0 ≡ true
-unfolding each_from
-each_none t i = refl
-
-pub each_stop : (t : ℕ → Bool) (i n : ℕ) → t i ≡ false → each_from t i (suc n) ≡ false
-unfolding each_from
-each_stop t i n e = rw e
-
-pub each_on : (t : ℕ → Bool) (i n : ℕ) → t i ≡ true → each_from t i (suc n) ≡ each_from t (i + 1) n
-unfolding each_from
-each_on t i n e = rw (e, add-one i)
 
 -- a walk that ended well tested each
 pub each_at : (t : ℕ → Bool) (i n : ℕ) → each_from t i n ≡ true → (k : ℕ) → i ≤ k → k < i + n → t k ≡ true
@@ -60,10 +42,6 @@ each_at t i (suc n) e k h g = pick (ℕ_discrete i k) (each_at t (suc i) n (and_
     pick (no p) f = f (omega (arith, p)) (omega arith)
 
 -- a walk that looks for a power of two
-pub power_none : (k x : ℕ) → power_among k 0 x ≡ false
-unfolding power_among
-power_none k x = refl
-
 pub power_hit : (k n x : ℕ) → x ≡ 2 ^ k → power_among k (suc n) x ≡ true
 unfolding power_among
 power_hit k n x e = rw (eq-eqb x (2 ^ k) e)
@@ -78,11 +56,11 @@ one_shl k w h = shl_exact {a = 1} 1 k w (lit< tt) (omega arith) ∙ one-mul (2 ^
 
 -- a walk that looks for a window
 module _ (base size : List ℕ) (a : AxiAddress) where
-  pub first_none : (i : ℕ) → first_from base size a i 0 ≡ Nothing
+  pub first_none : (i : ℕ) → first_from base size a i 0 ≡ None
   unfolding first_from
   first_none i = refl
 
-  pub first_hit : (i n : ℕ) → holds (get_or base i 0) (get_or size i 0) a ≡ true → first_from base size a i (suc n) ≡ At i
+  pub first_hit : (i n : ℕ) → holds (get_or base i 0) (get_or size i 0) a ≡ true → first_from base size a i (suc n) ≡ Some i
   unfolding first_from
   first_hit i n e = rw e
 
@@ -108,6 +86,16 @@ unfolding power_among
 power_found low zero x e = absurd (false≢true e)
 power_found low (suc n) x e = power_split low n x (eqb x (2 ^ low)) refl (power_found (suc low) n x) e
 
+pub power_in : (low n x k : ℕ) → low ≤ k → k < low + n → x ≡ 2 ^ k → power_among low n x ≡ true
+power_in low zero x k h g e = absurd (omega arith)
+power_in low (suc n) x k h g e = by (ℕ_discrete x (2 ^ low)) (λ d. power_in (low + 1) n x k d (omega arith) e)
+  where
+    by : Dec (x ≡ 2 ^ low) → (low + 1 ≤ k → power_among (low + 1) n x ≡ true) → power_among low (suc n) x ≡ true
+    by (yes p) f = power_hit low n x p
+    by (no p) f =
+        let d : low ≢ k = λ q. p (e ∙ ap (λ (j : ℕ). 2 ^ j) (sym q)) in
+        power_on low n x p ∙ f (omega (arith, d))
+
 pub power_pos : (low n x : ℕ) → power_among low n x ≡ true → 0 < x
 power_pos low n x e = let p = power_found low n x e in rw p.is (pow_pos p.exponent)
 
@@ -115,16 +103,3 @@ power_pos low n x e = let p = power_found low n x e in rw p.is (pow_pos p.expone
 pub seven_windows : (w : Windows) → 6 < w.count → windows_right w ≡ false
 unfolding windows_right
 seven_windows w h = rw (le-leb 1 w.count (omega arith), lt-leb w.count 6 h)
-
--- a time limit and a requester ID past their ranges, whatever the other settings
-and_false : (x : Bool) → x && false ≡ false
-and_false true = refl
-and_false false = refl
-
-pub late_limit : (s : Settings) → 65535 < s.limit → settings_number s ≡ 1
-unfolding settings_number settings_right
-late_limit s h = rw (le-leb 1 s.limit (omega arith), lt-leb s.limit 65535 h) (simp and_false)
-
-pub wide_requester : (s : Settings) → 65535 < s.requester → settings_number s ≡ 1
-unfolding settings_number settings_right
-wide_requester s h = rw (le-ltb s.requester (2 ^ 16) (omega arith)) (simp and_false)

@@ -1,9 +1,8 @@
 -- What holds of settings, windows and translation. The tables are any; a law that wants right windows says so.
-use Rattle.std.specs.Prelude.{◌≡◌, ℕ, ◌+◌, ◌-◌, ◌/◌, ◌%◌, ◌^◌, ◌<◌, ◌≤◌, max, true, false, slice_index}
+use Rattle.std.specs.Prelude.{◌≡◌, ℕ, ◌+◌, ◌-◌, ◌/◌, ◌%◌, ◌^◌, ◌<◌, ◌≤◌, max, Some, None, true, false, slice_index}
 use Rattle.address.specs.declared.AxiAddress.{AxiAddress}
 use Rattle.address.specs.declared.Windows.{Windows}
 use Rattle.address.specs.declared.Settings.{Settings}
-use Rattle.address.specs.declared.Found.TheVariants.{At, Nothing}
 use Rattle.address.specs.Windows.{axi, holds, window_of, holds_at, translated_at}
 use Rattle.address.specs.Settings.{apart, windows_right, settings_number, example_settings}
 
@@ -33,14 +32,14 @@ AcceptedWrites = (s : Settings) → settings_number s ≡ 0 → Limit s.writes �
 abbrev pub FoundHolds : Type 0
 FoundHolds =
     (w : Windows) (a : AxiAddress) (i : ℕ)
-    → window_of w.count w.base w.size a ≡ At i
+    → window_of w.count w.base w.size a ≡ Some i
     → (i < w.count) × (holds_at w i a ≡ true)
 
 -- where none is found, none of the six holds it
 abbrev pub NothingHolds : Type 0
 NothingHolds =
     (w : Windows) (a : AxiAddress)
-    → window_of w.count w.base w.size a ≡ Nothing
+    → window_of w.count w.base w.size a ≡ None
     → (i : ℕ) → i < w.count → i < 6 → holds_at w i a ≡ false
 
 -- at most one of right windows holds an address
@@ -59,7 +58,7 @@ OverlapShares =
 abbrev pub HolderFound : Type 0
 HolderFound =
     (w : Windows) → windows_right w ≡ true
-    → (a : AxiAddress) (i : ℕ) → i < w.count → holds_at w i a ≡ true → window_of w.count w.base w.size a ≡ At i
+    → (a : AxiAddress) (i : ℕ) → i < w.count → holds_at w i a ≡ true → window_of w.count w.base w.size a ≡ Some i
 
 -- a page lies in one of right windows or outside all
 abbrev pub PageInOneWindow : Type 0

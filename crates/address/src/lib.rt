@@ -2,20 +2,23 @@
 #![tactic(auto)]
 
 ghost use Rattle.std.specs.Prelude.{◌≡◌, ℕ, ◌-◌, ◌<◌, ◌≤◌};
+ghost use Rattle.refusals.specs.Refusals.{number_in};
 ghost use Rattle.address.specs.Windows.{holds, window_of, Placed, translated};
-ghost use Rattle.address.specs.Code.Entries.{entry_number};
-ghost use Rattle.address.specs.Settings.{power_of_two, each, window_right, right_at, apart, apart_at, windows_right, settings_number, example_settings};
+ghost use Rattle.address.specs.Settings.{power_of_two, each, window_right, right_at, apart, apart_at, windows_right, settings_right, settings_number, example_settings};
+
+use refusals::Refusal;
 
 // An address on the AXI side.
-#[derive(Clone, Copy)]
+#[derive(Clone, Copy, Debug, PartialEq, Eq)]
 pub struct AxiAddress(pub u64);
 
 // An address on the PCI Express side.
-#[derive(Clone, Copy)]
+#[derive(Clone, Copy, Debug, PartialEq, Eq)]
 pub struct PcieAddress(pub u64);
 
 // Up to six windows; entries past the count are ignored.
-#[derive(Clone, Copy)]
+// Kept: three columns beside a count, a fixed shape: window_list walks a slice of window structs above it, and C lends these columns.
+#[derive(Clone, Copy, Debug, PartialEq, Eq)]
 pub struct Windows {
     pub count: u32,
     pub base: [u64; 6],
@@ -24,7 +27,7 @@ pub struct Windows {
 }
 
 // Bus bits n, the two limits in bytes, the time limit T in ticks, the requester ID.
-#[derive(Clone, Copy)]
+#[derive(Clone, Copy, Debug, PartialEq, Eq)]
 pub struct Settings {
     pub windows: Windows,
     pub bits: u32,
@@ -34,68 +37,41 @@ pub struct Settings {
     pub requester: u32,
 }
 
-// Which window holds an address.
-#[derive(Clone, Copy)]
-pub enum Found {
-    At(u32),
-    Nothing,
-}
-
 // Whether a window holds an address.
+#[tactic(auto, unfolding(crate::specs::Windows::holds))]
 pub fn in_window(base: u64, size: u64, a: AxiAddress) -> bool
     ensures { result ≡ holds base size a }
 {
-    if a.0 < base {
-        return false;
-    }
-    a.0 - base < size
+    base <= a.0 && a.0 - base < size
 }
 
-// The first of the six entries that holds an address, in use or not; 6 where none does. The loop has a constant length, so that
-// the compiler unrolls it with constant indices: no turn tests the count, and a table by value is not copied.
-fn first_of_six(base: &[u64; 6], size: &[u64; 6], a: AxiAddress) -> u32
-    ensures { result ≡ entry_number (window_of 6 base.now size.now a) }
+// The first of the six entries that holds an address, in use or not. The loop has a constant length, so that the compiler
+// unrolls it with constant indices: no turn tests the count, and a table by value is not copied.
+fn first_of_six(base: &[u64; 6], size: &[u64; 6], a: AxiAddress) -> Option<u32>
+    ensures { result ≡ window_of 6 base.now size.now a }
 {
-    let mut i = 0;
-    while i < 6 {
+    for i in 0..6 {
         if in_window(base[i], size[i], a) {
-            return i as u32;
+            return Some(i as u32);
         }
-        i += 1;
     }
-    6
+    None
 }
 
 // The first window that holds an address.
-pub fn window_of(count: u32, base: &[u64; 6], size: &[u64; 6], a: AxiAddress) -> Found
+#[tactic(auto, using(crate::proofs::Counted::found_counts, crate::proofs::Counted::found_past))]
+pub fn window_of(count: u32, base: &[u64; 6], size: &[u64; 6], a: AxiAddress) -> Option<u32>
     ensures { (result ≡ window_of count base.now size.now a) × Placed result }
 {
-    let i = first_of_six(base, size, a);
-    if i < 6 {
-        if i < count {
-            return Found::At(i);
-        }
-    }
-    Found::Nothing
-}
-
-// The same for a table by value.
-pub fn find_window(w: Windows, a: AxiAddress) -> Found
-    ensures { (result ≡ window_of w.count w.base w.size a) × Placed result }
-{
-    let base = w.base;
-    let size = w.size;
-    window_of(w.count, &base, &size, a)
+    first_of_six(base, size, a).filter(|i| *i < count)
 }
 
 // The PCI Express address of an AXI address in a window.
+#[tactic(auto, unfolding(crate::specs::Windows::translated))]
 pub fn translate(base: u64, target: u64, a: AxiAddress) -> PcieAddress
     ensures { result ≡ translated base target a }
 {
-    if a.0 < base {
-        return PcieAddress(target);
-    }
-    PcieAddress(std::num::wrapping_add_u64(target, a.0 - base))
+    PcieAddress(target.wrapping_add(a.0.saturating_sub(base)))
 }
 
 // Whether x is a power of two, 2^low to 2^high.
@@ -103,133 +79,107 @@ fn power_of_two(low: u32, high: u32, x: u64) -> bool
     requires { (low ≤ high) × (high < 64) }
     ensures { result ≡ power_of_two low high x }
 {
-    let mut k = low;
-    while k <= high {
-        if x == 1 << k {
-            return true;
-        }
-        k += 1;
-    }
-    false
+    (low..high + 1).any(|k| x == 1 << k)
 }
 
 // Whether one window keeps its rules.
+#[tactic(auto, using(crate::proofs::Steps::power_pos), unfolding(crate::specs::Settings::window_right))]
 pub fn window_right(base: u64, size: u64, target: u64) -> bool
     ensures { result ≡ window_right base size target }
 {
-    if !power_of_two(12, 40, size) {
-        return false;
-    }
-    if base % size != 0 {
-        return false;
-    }
-    target % size == 0
+    power_of_two(12, 40, size) && base % size == 0 && target % size == 0
 }
 
 // Whether two ranges are disjoint. Compared by differences: a window may end at 2^64.
+#[tactic(auto, using(crate::proofs::Steps::leb_sub), unfolding(crate::specs::Settings::apart))]
 pub fn disjoint(base: u64, size: u64, other: u64, more: u64) -> bool
     ensures { result ≡ apart base size other more }
 {
     if base <= other {
-        return size <= other - base;
+        size <= other - base
+    } else {
+        more <= base - other
     }
-    more <= base - other
 }
 
 fn each_right(n: usize, base: &[u64; 6], size: &[u64; 6], target: &[u64; 6]) -> bool
     requires { n ≤ 6 }
     ensures { result ≡ each n (right_at base.now size.now target.now) }
 {
-    let mut i = 0;
-    while i < n {
-        if !window_right(base[i], size[i], target[i]) {
-            return false;
-        }
-        i += 1;
-    }
-    true
+    (0..n).all(|i| window_right(base[i], size[i], target[i]))
 }
 
 fn apart_before(j: usize, base: &[u64; 6], size: &[u64; 6]) -> bool
     requires { j < 6 }
     ensures { result ≡ each j (apart_at base.now size.now j) }
 {
-    let mut i = 0;
-    while i < j {
-        if !disjoint(base[i], size[i], base[j], size[j]) {
-            return false;
-        }
-        i += 1;
-    }
-    true
+    (0..j).all(|i| disjoint(base[i], size[i], base[j], size[j]))
 }
 
 fn all_apart(n: usize, base: &[u64; 6], size: &[u64; 6]) -> bool
     requires { n ≤ 6 }
     ensures { result ≡ each n (λ (j : ℕ). each j (apart_at base.now size.now j)) }
 {
-    let mut j = 0;
-    while j < n {
-        if !apart_before(j, base, size) {
+    (0..n).all(|j| apart_before(j, base, size))
+}
+
+impl Windows {
+    // The first window that holds an address, as for columns that are lent.
+    pub fn find_window(self, a: AxiAddress) -> Option<u32>
+        ensures { (result ≡ window_of self.count self.base self.size a) × Placed result }
+    {
+        window_of(self.count, &self.base, &self.size, a)
+    }
+
+    // Whether the windows keep their rules.
+    #[tactic(auto, using(crate::proofs::Steps::seven_windows), unfolding(crate::specs::Settings::windows_right))]
+    pub fn right(self) -> bool
+        ensures { result ≡ windows_right self }
+    {
+        if self.count < 1 || 6 < self.count {
             return false;
         }
-        j += 1;
+        let n = self.count as usize;
+        each_right(n, &self.base, &self.size, &self.target) && all_apart(n, &self.base, &self.size)
     }
-    true
 }
 
-// Whether the windows keep their rules.
-#[tactic(auto, using(crate::proofs::Steps::seven_windows))]
-pub fn windows_right(w: Windows) -> bool
-    ensures { result ≡ windows_right w }
-{
-    if w.count < 1 {
-        return false;
+impl Settings {
+    // Whether every setting keeps its rule.
+    #[tactic(auto, unfolding(crate::specs::Settings::settings_right))]
+    fn right(self) -> bool
+        ensures { result ≡ settings_right self }
+    {
+        self.windows.right()
+            && (1..=8).contains(&self.bits)
+            && power_of_two(7, 12, u64::from(self.reads))
+            && power_of_two(7, 10, u64::from(self.writes))
+            && (1..=65535).contains(&self.limit)
+            && self.requester <= 65535
     }
-    if 6 < w.count {
-        return false;
+
+    // Refused where a setting breaks its rule.
+    #[tactic(auto, unfolding(crate::specs::Settings::settings_number))]
+    pub fn check(self) -> Result<(), Refusal>
+        ensures { number_in result ≡ settings_number self }
+    {
+        if self.right() {
+            Ok(())
+        } else {
+            Err(Refusal::Setting)
+        }
     }
-    let n = w.count as usize;
-    let base = w.base;
-    let size = w.size;
-    let target = w.target;
-    if !each_right(n, &base, &size, &target) {
-        return false;
-    }
-    all_apart(n, &base, &size)
 }
 
-// 0 where every setting keeps its rule, else 1.
-#[tactic(auto, using(crate::proofs::Steps::late_limit, crate::proofs::Steps::wide_requester))]
+// For callers that still speak in numbers.
+#[tactic(auto, unfolding(crate::specs::Settings::settings_number))]
 pub fn settings_number(s: Settings) -> u32
     ensures { result ≡ settings_number s }
 {
-    let windows = s.windows;
-    if !windows_right(windows) {
-        return 1;
+    match s.check() {
+        Ok(()) => 0,
+        Err(_) => 1,
     }
-    if s.bits < 1 {
-        return 1;
-    }
-    if 8 < s.bits {
-        return 1;
-    }
-    if !power_of_two(7, 12, s.reads as u64) {
-        return 1;
-    }
-    if !power_of_two(7, 10, s.writes as u64) {
-        return 1;
-    }
-    if s.limit < 1 {
-        return 1;
-    }
-    if 65535 < s.limit {
-        return 1;
-    }
-    if 65535 < s.requester {
-        return 1;
-    }
-    0
 }
 
 // The settings of the worked examples.
@@ -243,7 +193,7 @@ pub fn example_settings() -> Settings
         target: [0x56710000, 0, 0, 0, 0, 0],
     };
     Settings {
-        windows: windows,
+        windows,
         bits: 8,
         reads: 128,
         writes: 128,

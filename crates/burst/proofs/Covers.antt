@@ -69,11 +69,3 @@ right_so false e = absurd (omega arith)
 pub number_right : (b : Burst) → burst_number b ≡ 0 → burst_right b ≡ true
 unfolding burst_number
 number_right b e = right_so (burst_right b) e
-
-wrong_so : (t : Bool) → (◌≡◌ {A = ℕ} (cond t 0 3) 0 → ⊥) → t ≡ false
-wrong_so true e = absurd (e refl)
-wrong_so false e = refl
-
-pub number_wrong : (b : Burst) → (burst_number b ≡ 0 → ⊥) → burst_right b ≡ false
-unfolding burst_number
-number_wrong b e = wrong_so (burst_right b) e

@@ -1,17 +1,19 @@
 // What a burst covers, its cut at a limit, and the words and byte enables of its pieces.
 #![tactic(auto)]
 
-ghost use Rattle.std.specs.Prelude.{◌≡◌, ◌+◌, ◌*◌, ◌^◌, ◌≤◌, ◌<◌, min, length, take, drop, replicate};
+ghost use Rattle.std.specs.Prelude.{◌≡◌, ◌+◌, ◌*◌, ◌^◌, ◌≤◌, ◌<◌, min, length};
 ghost use Rattle.std.proofs.Math.Seq.{paste};
-ghost use Rattle.burst.specs.Bursts.{end_from, burst_number, length_of, data_number};
+ghost use Rattle.refusals.specs.Refusals.{number_in};
+ghost use Rattle.burst.specs.Bursts.{end_from, burst_right, burst_number, length_of, data_number};
 ghost use Rattle.burst.specs.Pieces.{piece_count, piece_at, Within};
 ghost use Rattle.burst.specs.Words.{word_address, word_count, enables, first_enables, last_enables, words_of};
 
 use address::AxiAddress;
-use common::{copy_at, index, zero_at};
+use refusals::Refusal;
 
 // A burst: its start, size code, number of beats and type.
-#[derive(Clone, Copy)]
+// Kept: the size code, the beats and the type are numbers, since any value may be given, and a wrong one is refused (burst_number).
+#[derive(Clone, Copy, Debug, PartialEq, Eq)]
 pub struct Burst {
     pub start: AxiAddress,
     pub size: u32,
@@ -20,7 +22,7 @@ pub struct Burst {
 }
 
 // A part of a burst that goes into one packet: the address of its first byte, and its bytes.
-#[derive(Clone, Copy)]
+#[derive(Clone, Copy, Debug, PartialEq, Eq)]
 pub struct Piece {
     pub first: u64,
     pub length: u32,
@@ -32,56 +34,76 @@ fn end_from(start: u64, size: u32, beats: u32) -> u64
     ensures { result ≡ end_from start size beats }
 {
     let beat: u64 = 1 << size;
-    start / beat * beat + (beats as u64) * beat
+    start / beat * beat + u64::from(beats) * beat
 }
 
-// 0 for a burst that is accepted, else 3.
-#[tactic(auto, using(crate::proofs::Covers::end_in_page), unfolding(crate::specs::Bursts::burst_number, crate::specs::Bursts::burst_right))]
+impl Burst {
+    // Whether the type, the size, the beats and the page are right.
+    #[tactic(auto, using(crate::proofs::Covers::end_in_page), unfolding(crate::specs::Bursts::burst_right))]
+    fn right(self) -> bool
+        ensures { result ≡ burst_right self }
+    {
+        if self.kind != 1 || 5 < self.size || self.beats < 1 || 256 < self.beats {
+            return false;
+        }
+        end_from(self.start.0 % 4096, self.size, self.beats) <= 4096
+    }
+
+    // Refused where the type, the size, the beats or the page is wrong.
+    #[tactic(auto, unfolding(crate::specs::Bursts::burst_number))]
+    pub fn check(self) -> Result<(), Refusal>
+        ensures { number_in result ≡ burst_number self }
+    {
+        if self.right() {
+            Ok(())
+        } else {
+            Err(Refusal::WrongBurst)
+        }
+    }
+
+    // How many bytes it covers: none if it is refused.
+    pub fn length(self) -> u32
+        ensures { (result ≡ length_of self) × ((result ≤ 4096) × (self.start.0 + result ≤ 2 ^ 64)) }
+    {
+        if !self.right() {
+            return 0;
+        }
+        let low = self.start.0 % 4096;
+        (end_from(low, self.size, self.beats) - low) as u32
+    }
+
+    // Refused where write data has another length.
+    #[tactic(auto, unfolding(crate::specs::Bursts::data_number))]
+    pub fn check_data(self, len: usize) -> Result<(), Refusal>
+        ensures { number_in result ≡ data_number self len }
+    {
+        if len == self.length() as usize {
+            Ok(())
+        } else {
+            Err(Refusal::WrongData)
+        }
+    }
+}
+
+// For callers that still speak in numbers.
+#[tactic(auto, unfolding(crate::specs::Bursts::burst_number))]
 pub fn burst_number(b: Burst) -> u32
     ensures { result ≡ burst_number b }
 {
-    if b.kind != 1 {
-        return 3;
-    }
-    if 5 < b.size {
-        return 3;
-    }
-    if b.beats < 1 {
-        return 3;
-    }
-    if 256 < b.beats {
-        return 3;
-    }
-    let start = b.start;
-    if 4096 < end_from(start.0 % 4096, b.size, b.beats) {
-        return 3;
-    }
-    0
+    if b.right() { 0 } else { 3 }
 }
 
-// How many bytes a burst covers.
 pub fn length_of(b: Burst) -> u32
     ensures { (result ≡ length_of b) × ((result ≤ 4096) × (b.start.0 + result ≤ 2 ^ 64)) }
 {
-    if burst_number(b) != 0 {
-        return 0;
-    }
-    let start = b.start;
-    let low = start.0 % 4096;
-    (end_from(low, b.size, b.beats) - low) as u32
+    b.length()
 }
 
-// 0 where write data has the burst's length, else 15.
+#[tactic(auto, unfolding(crate::specs::Bursts::data_number))]
 pub fn data_number(b: Burst, len: usize) -> u32
     ensures { result ≡ data_number b len }
 {
-    if len == index(length_of(b)) { 0 } else { 15 }
-}
-
-fn least(x: u32, y: u32) -> u32
-    ensures { result ≡ min x y }
-{
-    if x < y { x } else { y }
+    if len == b.length() as usize { 0 } else { 15 }
 }
 
 // How many pieces n bytes from a start have.
@@ -94,8 +116,8 @@ pub fn piece_count(limit: u32, start: u64, n: u32) -> u32
     if n == 0 {
         return 1;
     }
-    let l = limit as u64;
-    ((start % l + ((n as u64) - 1)) / l + 1) as u32
+    let l = u64::from(limit);
+    ((start % l + (u64::from(n) - 1)) / l + 1) as u32
 }
 
 // The k-th of these pieces.
@@ -109,21 +131,23 @@ pub fn piece_at(limit: u32, start: u64, n: u32, k: u32) -> Piece
             length: 0,
         };
     }
-    let low = start % (limit as u64);
+    let l = u64::from(limit);
+    let low = start % l;
     if k == 0 {
         return Piece {
             first: start,
-            length: least(n, limit - (low as u32)),
+            length: n.min(limit - (low as u32)),
         };
     }
-    let from = (k as u64) * (limit as u64) - low;
+    let from = u64::from(k) * l - low;
     Piece {
         first: start + from,
-        length: least(n - (from as u32), limit),
+        length: (n - (from as u32)).min(limit),
     }
 }
 
 // The address of the word that holds a byte.
+#[tactic(auto, unfolding(crate::specs::Words::word_address))]
 pub fn word_address(a: u64) -> u64
     ensures { result ≡ word_address a }
 {
@@ -131,10 +155,11 @@ pub fn word_address(a: u64) -> u64
 }
 
 // How many words n bytes touch.
+#[tactic(auto, unfolding(crate::specs::Words::word_count))]
 pub fn word_count(a: u64, n: u32) -> u32
     ensures { result ≡ word_count a n }
 {
-    ((a % 4 + (n as u64) + 3) / 4) as u32
+    ((a % 4 + u64::from(n) + 3) / 4) as u32
 }
 
 fn enables_of(from: u32, to: u32) -> u32
@@ -145,6 +170,7 @@ fn enables_of(from: u32, to: u32) -> u32
 }
 
 // The byte enables of the first word.
+#[tactic(auto, unfolding(crate::specs::Words::first_enables))]
 pub fn first_enables(a: u64, n: u32) -> u32
     ensures { result ≡ first_enables a n }
 {
@@ -163,16 +189,18 @@ pub fn last_enables(a: u64, n: u32) -> u32
     if word_count(a, n) <= 1 {
         return 0;
     }
-    enables_of(0, ((a % 4 + (n as u64) + 3) % 4 + 1) as u32)
+    enables_of(0, ((a % 4 + u64::from(n) + 3) % 4 + 1) as u32)
 }
 
-// The words of the n bytes of src from a place on, which go to address a, put into dst from at on.
-pub fn put_words(dst: &mut [u8], at: usize, a: u64, src: &[u8], from: usize, n: usize)
-    requires { (at + 4 * word_count a n ≤ length dst.old) × (from + n ≤ length src.now) }
-    ensures { dst.new ≡ paste dst.old at (words_of a (take n (drop from src.now))) (4 * word_count a n) }
+// The words of the bytes of src, which go to address a, put into dst from at on.
+#[tactic(auto, unfolding(crate::specs::Words::word_count))]
+pub fn put_words(dst: &mut [u8], at: usize, a: u64, src: &[u8])
+    requires { at + 4 * word_count a (length src.now) ≤ length dst.old }
+    ensures { dst.new ≡ paste dst.old at (words_of a src.now) (4 * word_count a (length src.now)) }
 {
     let low = (a % 4) as usize;
-    zero_at(dst, at, (low + n + 3) / 4 * 4);
-    let end = from + n;
-    copy_at(dst, at + low, &src[from..end], n);
+    let end = at + (low + src.len() + 3) / 4 * 4;
+    dst[at..end].fill(0);
+    let first = at + low;
+    dst[first..first + src.len()].copy_from_slice(src);
 }

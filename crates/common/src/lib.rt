@@ -37,11 +37,8 @@ pub fn zero_at(dst: &mut [u8], at: usize, n: usize)
     requires { at + n ≤ length dst.old }
     ensures { dst.new ≡ paste dst.old at (replicate n 0) n }
 {
-    let mut i = 0;
-    while i < n {
-        dst[at + i] = 0;
-        i += 1;
-    }
+    let end = at + n;
+    dst[at..end].fill(0);
 }
 
 // The first n bytes of src, put into dst from at on.
@@ -49,11 +46,8 @@ pub fn copy_at(dst: &mut [u8], at: usize, src: &[u8], n: usize)
     requires { (at + n ≤ length dst.old) × (n ≤ length src.now) }
     ensures { dst.new ≡ paste dst.old at src.now n }
 {
-    let mut i = 0;
-    while i < n {
-        dst[at + i] = src[i];
-        i += 1;
-    }
+    let end = at + n;
+    dst[at..end].copy_from_slice(&src[..n]);
 }
 
 // The decode bits that the code names, as PG194 does.

@@ -160,26 +160,25 @@ module _ (a n from : ℕ) (bytes : List ℕ) (fits : from + n ≤ length bytes) 
   pub payload_length_lem : length (words_of a (take n (drop from bytes))) ≡ 4 * word_count a n
   payload_length_lem = words_length a (take n (drop from bytes)) ∙ ap (λ (k : ℕ). 4 * word_count a k) part_length
 
-  module _ (r : Request) (len : ℕ) (e : len ≡ length (packet r [])) (some : len ≡ 0 → ⊥) where
-    abbrev payload : List ℕ
-    payload = words_of a (take n (drop from bytes))
+module _ (a : ℕ) (bytes : List ℕ) (r : Request) (len : ℕ) (e : len ≡ length (packet r [])) (some : len ≡ 0 → ⊥) where
+  abbrev payload : List ℕ
+  payload = words_of a bytes
 
-    whole : packet r payload ≡ packet r [] ++ payload
-    whole = goes_on r payload (λ z. some (e ∙ z))
+  whole : packet r payload ≡ packet r [] ++ payload
+  whole = goes_on r payload (λ z. some (e ∙ z))
 
-    pub packet_length : length (packet r payload) ≡ len + 4 * word_count a n
-    packet_length = omega (arith, ap length whole, length-append (packet r []) payload, payload_length_lem, e)
+  pub packet_length : length (packet r payload) ≡ len + 4 * word_count a (length bytes)
+  packet_length = omega (arith, ap length whole, length-append (packet r []) payload, words_length a bytes, e)
 
-    pub put_whole : (area b one two : List ℕ) (at : ℕ) → take len b ≡ packet r [] → at + (len + 4 * word_count a n) ≤ length area
-        → one ≡ paste area at b len → two ≡ paste one (at + len) payload (4 * word_count a n)
-        → Put area at (packet r payload) (at + (len + 4 * word_count a n)) two
-    put_whole area b one two at t h p q =
-        let c : one ≡ paste area at (packet r []) (length (packet r [])) = p ∙ paste_head area at len b (packet r []) t e in
-        let d : two ≡ paste (paste area at (packet r []) (length (packet r []))) (at + length (packet r [])) payload (length payload) =
-        q ∙ ap (λ (x : List ℕ). paste x (at + len) payload (4 * word_count a n)) c
-        ∙ ap (λ (k : ℕ). paste (paste area at (packet r []) (length (packet r []))) (at + k) payload (4 * word_count a n)) e
-        ∙ ap (λ (k : ℕ). paste (paste area at (packet r []) (length (packet r []))) (at + length (packet r [])) payload k) (sym payload_length_lem) in
-        let f : two ≡ paste area at (packet r payload) (length (packet r payload)) =
-        d ∙ paste_two area at (packet r []) payload (omega arith)
-        ∙ ap (λ (x : List ℕ). paste area at x (length x)) (sym whole) in
-        put_here area at (packet r payload) (at + (len + 4 * word_count a n)) two (omega (arith, packet_length)) (ap (λ (k : ℕ). at + k) (sym packet_length)) f
+  pub put_whole : (area one two : List ℕ) (at : ℕ) → at + (len + 4 * word_count a (length bytes)) ≤ length area
+      → one ≡ paste area at (packet r []) (length (packet r [])) → two ≡ paste one (at + len) payload (4 * word_count a (length bytes))
+      → Put area at (packet r payload) (at + (len + 4 * word_count a (length bytes))) two
+  put_whole area one two at h p q =
+      let d : two ≡ paste (paste area at (packet r []) (length (packet r []))) (at + length (packet r [])) payload (length payload) =
+      q ∙ ap (λ (x : List ℕ). paste x (at + len) payload (4 * word_count a (length bytes))) p
+      ∙ ap (λ (k : ℕ). paste (paste area at (packet r []) (length (packet r []))) (at + k) payload (4 * word_count a (length bytes))) e
+      ∙ ap (λ (k : ℕ). paste (paste area at (packet r []) (length (packet r []))) (at + length (packet r [])) payload k) (sym (words_length a bytes)) in
+      let f : two ≡ paste area at (packet r payload) (length (packet r payload)) =
+      d ∙ paste_two area at (packet r []) payload (omega arith)
+      ∙ ap (λ (x : List ℕ). paste area at x (length x)) (sym whole) in
+      put_here area at (packet r payload) (at + (len + 4 * word_count a (length bytes))) two (omega (arith, packet_length)) (ap (λ (k : ℕ). at + k) (sym packet_length)) f

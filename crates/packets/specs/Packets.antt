@@ -1,12 +1,10 @@
 -- What is sent for a memory burst: its pieces through their window, and a packet for each (01, 'Memory bursts').
-use Rattle.std.specs.Prelude.{ℕ, ◌-◌, List, [], ◌++◌, Bool, cond, length, drop}
+use Rattle.std.specs.Prelude.{ℕ, ◌-◌, Option, Some, None, List, [], ◌++◌, Bool, cond, length, drop}
 use Rattle.tlp.specs.declared.request.Target.TheVariants.{Memory}
 use Rattle.tlp.specs.declared.request.Request.{Request}
 use Rattle.tlp.specs.Request.{valid_request, request_bytes}
 use Rattle.address.specs.declared.Windows.{Windows}
 use Rattle.address.specs.declared.Settings.{Settings}
-use Rattle.address.specs.declared.Found.{Found}
-use Rattle.address.specs.declared.Found.TheVariants as found
 use Rattle.address.specs.Windows.{axi, window_of, translated_at}
 use Rattle.burst.specs.declared.Burst.{Burst}
 use Rattle.burst.specs.declared.Piece.{Piece}
@@ -18,12 +16,12 @@ use Rattle.burst.specs.Words.{word_address, word_count, first_enables, last_enab
 abbrev pub filled : List ℕ → List ℕ → List ℕ
 filled sent area = sent ++ drop (length sent) area
 
-abbrev pub window_for : Windows → Burst → Found
+abbrev pub window_for : Windows → Burst → Option ℕ
 window_for w q = window_of w.count w.base w.size q.start
 
-abbrev pub index_of : Found → ℕ
-index_of (found.At i) = i
-index_of found.Nothing = 0
+abbrev pub index_of : Option ℕ → ℕ
+index_of (Some i) = i
+index_of None = 0
 
 -- the PCIe address of an AXI address, through the window that holds the burst's first byte
 unfoldable pub pcie_of : Windows → Burst → ℕ → ℕ

@@ -10,30 +10,35 @@ ghost use Rattle.packets.specs.Packets.{filled, index_of, piece_of, place_in, me
 ghost use Rattle.packets.specs.Writes.{write_bytes};
 ghost use Rattle.packets.specs.Steps.{Put};
 
-use address::{AxiAddress, Found, PcieAddress, Settings, Windows};
+use address::{AxiAddress, PcieAddress, Settings, Windows};
 use burst::{Burst, put_words};
-use common::{copy_at, index};
 use tlp::request::{Request, Target, write_request};
 
 // Whether no window holds an address.
 pub fn no_window(w: Windows, a: AxiAddress) -> bool
     ensures { result ≡ not (eqb (found_number (window_of w.count w.base w.size a)) 0) }
 {
-    let f = address::find_window(w, a);
-    match f {
-        Found::At(_) => false,
-        Found::Nothing => true,
-    }
+    w.find_window(a).is_none()
 }
 
 // What a window adds to an address and takes from it.
-#[derive(Clone, Copy)]
+#[derive(Clone, Copy, Debug, PartialEq, Eq)]
 pub struct Shift {
     pub base: u64,
     pub target: u64,
 }
 
-// One of six numbers. By cases and not by an index, so that the compiler needs no copy of the table in memory.
+impl Shift {
+    // The PCI Express address of an AXI address in the window.
+    pub fn translate(self, a: AxiAddress) -> PcieAddress
+        ensures { result ≡ translated self.base self.target a }
+    {
+        address::translate(self.base, self.target, a)
+    }
+}
+
+// One of six numbers, by cases, so that the compiler needs no copy of the table in memory.
+// Kept: an index in its place takes 3.6 ns an address and this 2.8 (docs/DECISIONS.md, "One of six by cases").
 fn one_of(xs: [u64; 6], i: u32) -> u64
     requires { i < 6 }
     ensures { result ≡ get_or xs i 0 }
@@ -52,37 +57,36 @@ fn one_of(xs: [u64; 6], i: u32) -> u64
 pub fn shift_of(w: Windows, a: AxiAddress) -> Shift
     ensures { (result.base ≡ get_or w.base (index_of (window_of w.count w.base w.size a)) 0) × (result.target ≡ get_or w.target (index_of (window_of w.count w.base w.size a)) 0) }
 {
-    let base = w.base;
-    let target = w.target;
-    let f = address::find_window(w, a);
-    match f {
-        Found::At(i) => Shift {
-            base: one_of(base, i),
-            target: one_of(target, i),
+    match w.find_window(a) {
+        Some(i) => Shift {
+            base: one_of(w.base, i),
+            target: one_of(w.target, i),
         },
-        Found::Nothing => Shift {
-            base: base[0],
-            target: target[0],
+        None => Shift {
+            base: w.base[0],
+            target: w.target[0],
         },
     }
 }
 
+#[tactic(auto, unfolding(crate::specs::Packets::memory_request))]
 pub fn memory_request(write: bool, requester: u32, tag: u32, a: PcieAddress, n: u32) -> Request
     ensures { result ≡ memory_request write requester tag a.0 n }
 {
     Request {
-        write: write,
+        write,
         target: Target::Memory(burst::word_address(a.0)),
         length: burst::word_count(a.0, n),
-        requester: requester,
-        tag: tag,
+        requester,
+        tag,
         last: burst::last_enables(a.0, n),
         first: burst::first_enables(a.0, n),
     }
 }
 
 // A header in the first bytes of an array, the others zero; none for a request outside its ranges.
-#[derive(Clone, Copy)]
+// Kept: there is no heap, so a header of 12 or 16 bytes is handed on by value with its length.
+#[derive(Clone, Copy, Debug, PartialEq, Eq)]
 pub struct Head {
     pub bytes: [u8; 16],
     pub length: usize,
@@ -96,55 +100,24 @@ pub fn head_of(q: Request) -> Head
     Head { bytes, length }
 }
 
-// The packet of n bytes from a place of the data on, which go to address a, and where the next one goes. One that the area
-// cannot hold is left out.
-pub fn put_packet(
-    requester: u32,
-    a: PcieAddress,
-    n: u32,
-    bytes: &[u8],
-    from: usize,
-    area: &mut [u8],
-    at: usize,
-) -> usize
-    requires { (from + n ≤ length bytes.now) × ((n ≤ 4096) × (at ≤ length area.old)) }
-    ensures { Put area.old at (packet (memory_request true requester 0 a.0 n) (words_of a.0 (take n (drop from bytes.now)))) result area.new }
+// The packet of some bytes, which go to address a, and where the next one goes. One that the area cannot hold is left out.
+pub fn put_packet(requester: u32, a: PcieAddress, bytes: &[u8], area: &mut [u8], at: usize) -> usize
+    requires { (length bytes.now ≤ 4096) × (at ≤ length area.old) }
+    ensures { Put area.old at (packet (memory_request true requester 0 a.0 (length bytes.now)) (words_of a.0 bytes.now)) result area.new }
 {
+    let n = bytes.len() as u32;
     let h = head_of(memory_request(true, requester, 0, a, n));
-    let len = h.length;
-    if len == 0 {
+    if h.length == 0 {
         return at;
     }
-    let need = len + 4 * index(burst::word_count(a.0, n));
+    let need = h.length + 4 * burst::word_count(a.0, n) as usize;
     if area.len() - at < need {
         return at;
     }
-    let head = h.bytes;
-    copy_at(area, at, &head, len);
-    put_words(area, at + len, a.0, bytes, from, index(n));
+    let words = at + h.length;
+    area[at..words].copy_from_slice(&h.bytes[..h.length]);
+    put_words(area, words, a.0, bytes);
     at + need
-}
-
-// The packet of the k-th of n bytes' pieces, and where the next one goes.
-pub fn write_turn(
-    limit: u32,
-    requester: u32,
-    shift: Shift,
-    q: Burst,
-    n: u32,
-    k: u32,
-    bytes: &[u8],
-    area: &mut [u8],
-    at: usize,
-) -> usize
-    requires { (n ≡ length_of q) × ((n ≤ 4096) × ((q.start.0 + n ≤ 2 ^ 64) × ((k < piece_count limit q.start.0 n) × ((n ≤ length bytes.now) × (at ≤ length area.old))))) }
-    ensures { Put area.old at (packet (memory_request true requester 0 (translated shift.base shift.target (axi (piece_of limit q k).first)).0 (piece_of limit q k).length) (words_of (translated shift.base shift.target (axi (piece_of limit q k).first)).0 (take (piece_of limit q k).length (drop (place_in q (piece_of limit q k)) bytes.now)))) result area.new }
-{
-    let start = q.start;
-    let p = burst::piece_at(limit, start.0, n, k);
-    let a = address::translate(shift.base, shift.target, AxiAddress(p.first));
-    let from = (p.first - start.0) as usize;
-    put_packet(requester, a, p.length, bytes, from, area, at)
 }
 
 // The packets of every piece, in address order; how many bytes they are.
@@ -153,15 +126,16 @@ pub fn write_pieces(s: Settings, q: Burst, bytes: &[u8], area: &mut [u8]) -> usi
     ensures { (result ≡ length (write_bytes s q bytes.now (length area.old))) × (area.new ≡ filled (write_bytes s q bytes.now (length area.old)) area.old) }
 {
     let start = q.start;
-    let windows = s.windows;
-    let shift = shift_of(windows, start);
-    let n = burst::length_of(q);
+    let shift = shift_of(s.windows, start);
+    let n = q.length();
     let count = burst::piece_count(s.writes, start.0, n);
     let mut at = 0;
-    let mut k: u32 = 0;
-    while k < count {
-        at = write_turn(s.writes, s.requester, shift, q, n, k, bytes, area, at);
-        k += 1;
+    for k in 0..count {
+        let piece = burst::piece_at(s.writes, start.0, n, k);
+        let a = shift.translate(AxiAddress(piece.first));
+        let from = (piece.first - start.0) as usize;
+        let end = from + piece.length as usize;
+        at = put_packet(s.requester, a, &bytes[from..end], area, at);
     }
     at
 }

@@ -1,11 +1,11 @@
 // The choice of a window as it was before request A3, word for word: each turn of the walk tests the count, and `shift_of`
 // takes base and target by an index.
+// Kept: it is what the present choice is timed against, so but for its result, an Option, and its casts it stays as it was.
 ghost use Rattle.std.specs.Prelude.{◌≡◌, ◌≤◌, min, not, ◌==◌, slice_index};
 ghost use Rattle.address.specs.Windows.{window_of, Placed, found_number};
 ghost use Rattle.packets.specs.Packets.{index_of};
 
-use address::{AxiAddress, Found, Windows};
-use common::index;
+use address::{AxiAddress, Windows};
 use packets::Shift;
 
 fn six_at_most(n: u32) -> usize
@@ -14,21 +14,21 @@ fn six_at_most(n: u32) -> usize
     if n < 6 { n as usize } else { 6 }
 }
 
-pub fn window_of(count: u32, base: &[u64; 6], size: &[u64; 6], a: AxiAddress) -> Found
+pub fn window_of(count: u32, base: &[u64; 6], size: &[u64; 6], a: AxiAddress) -> Option<u32>
     ensures { (result ≡ window_of count base.now size.now a) × Placed result }
 {
     let n = six_at_most(count);
     let mut i = 0;
     while i < n {
         if address::in_window(base[i], size[i], a) {
-            return Found::At(i as u32);
+            return Some(i as u32);
         }
         i += 1;
     }
-    Found::Nothing
+    None
 }
 
-fn find_window(w: Windows, a: AxiAddress) -> Found
+fn find_window(w: Windows, a: AxiAddress) -> Option<u32>
     ensures { (result ≡ window_of w.count w.base w.size a) × Placed result }
 {
     let base = w.base;
@@ -41,8 +41,8 @@ pub fn no_window(w: Windows, a: AxiAddress) -> bool
 {
     let f = find_window(w, a);
     match f {
-        Found::At(_) => false,
-        Found::Nothing => true,
+        Some(_) => false,
+        None => true,
     }
 }
 
@@ -53,14 +53,14 @@ pub fn shift_of(w: Windows, a: AxiAddress) -> Shift
     let target = w.target;
     let f = find_window(w, a);
     match f {
-        Found::At(i) => {
-            let k = index(i);
+        Some(i) => {
+            let k = i as usize;
             Shift {
                 base: base[k],
                 target: target[k],
             }
         }
-        Found::Nothing => Shift {
+        None => Shift {
             base: base[0],
             target: target[0],
         },

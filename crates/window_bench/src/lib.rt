@@ -1,50 +1,132 @@
-// What bench/ times: the choice of a window, by itself and as an access of the bridge makes it. Each function for bench/ stands
-// here twice, with the present choice and, `_former`, with the one before request A3; window_bench_c exports these for C.
+// What bench/ times: the choice of a window, by itself and as an access of the bridge makes it. Each function for bench/ is
+// there with the present choice and, `_former`, with the one before request A3; window_bench_c exports these for C.
 #![tactic(auto)]
 
 mod former;
 
-ghost use Rattle.std.specs.Prelude.{◌≡◌};
-ghost use Rattle.address.specs.Windows.{axi, translated};
+ghost use Rattle.std.specs.Prelude.{◌≡◌, not, ◌==◌, slice_index};
+ghost use Rattle.address.specs.Windows.{axi, window_of, Placed, found_number};
 ghost use Rattle.address.specs.Code.Entries.{entry_number};
+ghost use Rattle.packets.specs.Packets.{index_of};
 ghost use Rattle.window_bench.specs.Sums.{sum_of, entry_at, table_of, reached_at};
 
-use address::{AxiAddress, Found, Windows};
+use address::{AxiAddress, Windows};
 use packets::Shift;
 
-fn entry_number(f: Found) -> u64
-    ensures { result ≡ entry_number f }
-{
-    match f {
-        Found::At(i) => i as u64,
-        Found::Nothing => 6,
+// A choice that is timed.
+trait Choice {
+    fn window_of(count: u32, base: &[u64; 6], size: &[u64; 6], a: AxiAddress) -> Option<u32>
+        ensures { (result ≡ window_of count base.now size.now a) × Placed result };
+
+    fn no_window(w: Windows, a: AxiAddress) -> bool
+        ensures { result ≡ not (found_number (window_of w.count w.base w.size a) == 0) };
+
+    fn shift_of(w: Windows, a: AxiAddress) -> Shift
+        ensures { (result.base ≡ slice_index w.base (index_of (window_of w.count w.base w.size a))) × (result.target ≡ slice_index w.target (index_of (window_of w.count w.base w.size a))) };
+}
+
+struct Present;
+
+impl Choice for Present {
+    fn window_of(count: u32, base: &[u64; 6], size: &[u64; 6], a: AxiAddress) -> Option<u32> {
+        address::window_of(count, base, size, a)
+    }
+
+    fn no_window(w: Windows, a: AxiAddress) -> bool {
+        packets::no_window(w, a)
+    }
+
+    fn shift_of(w: Windows, a: AxiAddress) -> Shift {
+        packets::shift_of(w, a)
+    }
+}
+
+struct Before;
+
+impl Choice for Before {
+    fn window_of(count: u32, base: &[u64; 6], size: &[u64; 6], a: AxiAddress) -> Option<u32> {
+        former::window_of(count, base, size, a)
+    }
+
+    fn no_window(w: Windows, a: AxiAddress) -> bool {
+        former::no_window(w, a)
+    }
+
+    fn shift_of(w: Windows, a: AxiAddress) -> Shift {
+        former::shift_of(w, a)
     }
 }
 
 // ---- the choice on lent columns: one, and the sum of many
 
+fn chosen<C: Choice>(count: u32, base: &[u64; 6], size: &[u64; 6], a: u64) -> u64
+    ensures { result ≡ entry_at count base.now size.now a }
+{
+    C::window_of(count, base, size, AxiAddress(a)).map_or(6, u64::from)
+}
+
+#[tactic(auto, using(crate::proofs::Sums::sum_none, crate::proofs::Sums::sum_on))]
+fn choices<C: Choice>(count: u32, base: &[u64; 6], size: &[u64; 6], addresses: &[u64]) -> u64
+    ensures { result ≡ sum_of (entry_at count base.now size.now) addresses.now }
+{
+    let mut sum = 0u64;
+    for a in addresses {
+        sum = sum.wrapping_add(chosen::<C>(count, base, size, *a));
+    }
+    sum
+}
+
+// ---- as an access makes it, with the table by value: whether a window holds the address, then that window's base and target
+
+fn reached<C: Choice>(w: Windows, a: u64) -> u64
+    ensures { result ≡ reached_at w a }
+{
+    if C::no_window(w, AxiAddress(a)) {
+        return 0;
+    }
+    C::shift_of(w, AxiAddress(a)).translate(AxiAddress(a)).0
+}
+
+#[tactic(auto, using(crate::proofs::Sums::sum_none, crate::proofs::Sums::sum_on))]
+fn accesses<C: Choice>(w: Windows, addresses: &[u64]) -> u64
+    ensures { result ≡ sum_of (reached_at w) addresses.now }
+{
+    let mut sum = 0u64;
+    for a in addresses {
+        sum = sum.wrapping_add(reached::<C>(w, *a));
+    }
+    sum
+}
+
+fn table_of(count: u32, base: &[u64; 6], size: &[u64; 6], target: &[u64; 6]) -> Windows
+    ensures { result ≡ table_of count base.now size.now target.now }
+{
+    Windows {
+        count,
+        base: *base,
+        size: *size,
+        target: *target,
+    }
+}
+
+// ---- what is exported
+
 pub fn window_bench_choice(count: u32, base: &[u64; 6], size: &[u64; 6], a: u64) -> u64
     ensures { result ≡ entry_at count base.now size.now a }
 {
-    entry_number(address::window_of(count, base, size, AxiAddress(a)))
+    chosen::<Present>(count, base, size, a)
 }
 
 pub fn window_bench_choice_former(count: u32, base: &[u64; 6], size: &[u64; 6], a: u64) -> u64
     ensures { result ≡ entry_at count base.now size.now a }
 {
-    entry_number(former::window_of(count, base, size, AxiAddress(a)))
+    chosen::<Before>(count, base, size, a)
 }
 
 pub fn window_bench_choices(count: u32, base: &[u64; 6], size: &[u64; 6], addresses: &[u64]) -> u64
     ensures { result ≡ sum_of (entry_at count base.now size.now) addresses.now }
 {
-    let mut sum: u64 = 0;
-    let mut k = 0;
-    while k < addresses.len() {
-        sum = std::num::wrapping_add_u64(sum, window_bench_choice(count, base, size, addresses[k]));
-        k += 1;
-    }
-    sum
+    choices::<Present>(count, base, size, addresses)
 }
 
 pub fn window_bench_choices_former(
@@ -55,57 +137,7 @@ pub fn window_bench_choices_former(
 ) -> u64
     ensures { result ≡ sum_of (entry_at count base.now size.now) addresses.now }
 {
-    let mut sum: u64 = 0;
-    let mut k = 0;
-    while k < addresses.len() {
-        sum = std::num::wrapping_add_u64(
-            sum,
-            window_bench_choice_former(count, base, size, addresses[k]),
-        );
-        k += 1;
-    }
-    sum
-}
-
-// ---- as an access makes it, with the table by value: whether a window holds the address, then that window's base and target
-
-fn behind(s: Shift, a: u64) -> u64
-    ensures { result ≡ (translated s.base s.target (axi a)).0 }
-{
-    let p = address::translate(s.base, s.target, AxiAddress(a));
-    p.0
-}
-
-fn reached(w: Windows, a: u64) -> u64
-    ensures { result ≡ reached_at w a }
-{
-    if packets::no_window(w, AxiAddress(a)) {
-        return 0;
-    }
-    behind(packets::shift_of(w, AxiAddress(a)), a)
-}
-
-fn reached_former(w: Windows, a: u64) -> u64
-    ensures { result ≡ reached_at w a }
-{
-    if former::no_window(w, AxiAddress(a)) {
-        return 0;
-    }
-    behind(former::shift_of(w, AxiAddress(a)), a)
-}
-
-fn table_of(count: u32, base: &[u64; 6], size: &[u64; 6], target: &[u64; 6]) -> Windows
-    ensures { result ≡ table_of count base.now size.now target.now }
-{
-    let b = *base;
-    let z = *size;
-    let t = *target;
-    Windows {
-        count: count,
-        base: b,
-        size: z,
-        target: t,
-    }
+    choices::<Before>(count, base, size, addresses)
 }
 
 pub fn window_bench_accesses(
@@ -117,14 +149,7 @@ pub fn window_bench_accesses(
 ) -> u64
     ensures { result ≡ sum_of (reached_at (table_of count base.now size.now target.now)) addresses.now }
 {
-    let w = table_of(count, base, size, target);
-    let mut sum: u64 = 0;
-    let mut k = 0;
-    while k < addresses.len() {
-        sum = std::num::wrapping_add_u64(sum, reached(w, addresses[k]));
-        k += 1;
-    }
-    sum
+    accesses::<Present>(table_of(count, base, size, target), addresses)
 }
 
 pub fn window_bench_accesses_former(
@@ -136,12 +161,5 @@ pub fn window_bench_accesses_former(
 ) -> u64
     ensures { result ≡ sum_of (reached_at (table_of count base.now size.now target.now)) addresses.now }
 {
-    let w = table_of(count, base, size, target);
-    let mut sum: u64 = 0;
-    let mut k = 0;
-    while k < addresses.len() {
-        sum = std::num::wrapping_add_u64(sum, reached_former(w, addresses[k]));
-        k += 1;
-    }
-    sum
+    accesses::<Before>(table_of(count, base, size, target), addresses)
 }

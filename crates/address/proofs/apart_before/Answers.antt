@@ -1,67 +1,12 @@
-use Rattle.std.proofs.Common.{◌≡◌, suc, ◌+◌, ◌-◌, sym, ap, ◌∙◌, zero-le, arith}
-use native.Mathlib.Nat.{sub-zero}
-use Rattle.address.specs.Settings.{each_from, apart_at}
-use Rattle.address.proofs.Steps.{each_none, each_stop, each_on}
+use Rattle.std.proofs.Common.{◌≡◌, true, false, refl, rules, arith}
+use borrow.Author.Tests.{tests}
+use Rattle.std.proofs.lemmas.Iterator.{cases_from_all, YieldsList-from_range}
+use Rattle.address.specs.Settings.{apart_at}
+use Rattle.address.proofs.Ranges.{all_ran}
 use Rattle.address.proofs.apart_before.Goals as goal
-
-pub loop-i-init : goal.loop-i-init
-loop-i-init c = (zero-le, rw sub-zero)
-
-pub offset_bounds-base-i : goal.offset_bounds-base-i
-offset_bounds-base-i c = omega arith
-
-pub bounds-base-i : goal.bounds-base-i
-bounds-base-i c = omega arith
-
-pub offset_bounds-size-i : goal.offset_bounds-size-i
-offset_bounds-size-i c = omega arith
-
-pub bounds-size-i : goal.bounds-size-i
-bounds-size-i c = omega arith
-
-pub offset_bounds-base-j : goal.offset_bounds-base-j
-offset_bounds-base-j c = omega arith
-
-pub bounds-base-j : goal.bounds-base-j
-bounds-base-j c = omega arith
-
-pub offset_bounds-size-j : goal.offset_bounds-size-j
-offset_bounds-size-j c = omega arith
-
-pub bounds-size-j : goal.bounds-size-j
-bounds-size-j c = omega arith
-
-pub disjoint-requires : goal.disjoint-requires
-disjoint-requires c = tt
-
-pub returns-then-not-disjoint : goal.returns-then-not-disjoint
-returns-then-not-disjoint c =
-    let i = c.loop-i.i in
-    let j = c.args.j in
-    let t = apart_at c.args.base.now c.args.size.now j in
-    let e : j - i ≡ suc (j - (i + 1)) = omega arith in
-    sym (c.loop-i.invariant.1 ∙ ap (each_from t i) e ∙ each_stop t i (j - (i + 1)) (sym c.disjoint.ensures ∙ c.if-not-disjoint.true))
-
-pub overflow_add-i : goal.overflow_add-i
-overflow_add-i c = omega arith
-
-pub loop-i-smaller : goal.loop-i-smaller
-loop-i-smaller c = omega arith
-
-pub loop-i-preserved : goal.loop-i-preserved
-loop-i-preserved c =
-    let i = c.loop-i.i in
-    let j = c.args.j in
-    let t = apart_at c.args.base.now c.args.size.now j in
-    let e : j - i ≡ suc (j - (i + 1)) = omega arith in (
-      omega arith,
-      c.loop-i.invariant.1 ∙ ap (each_from t i) e ∙ each_on t i (j - (i + 1)) (sym c.disjoint.ensures ∙ c.if-not-disjoint.false),
-    )
 
 pub returns : goal.returns
 returns c =
-    let i = c.loop-i.i in
-    let j = c.args.j in
-    let t = apart_at c.args.base.now c.args.size.now j in
-    let e : j - i ≡ 0 = omega arith in
-    sym (c.loop-i.invariant.1 ∙ ap (each_from t i) e ∙ each_none t i)
+    let x = c.args in
+    let t = apart_at x.base.now x.size.now x.j in
+    all_ran t x.j c.all.result (cases_from_all _ _ _ (λ k. t k ≡ true) (λ k. t k ≡ false) c.all.ensures.ran (YieldsList-from_range 0 x.j x.j refl (omega arith)) (λ k q h. search (rules, tests)) (λ k q h. search (rules, tests)))

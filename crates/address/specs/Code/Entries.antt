@@ -1,9 +1,7 @@
 -- The number by which the code says which of the six entries it found.
-use Rattle.std.specs.Prelude.{ℕ}
-use Rattle.address.specs.declared.Found.{Found}
-use Rattle.address.specs.declared.Found.TheVariants.{At, Nothing}
+use Rattle.std.specs.Prelude.{ℕ, Option, Some, None}
 
 -- the entry's own number, and 6 for none
-abbrev pub entry_number : Found → ℕ
-entry_number (At i) = i
-entry_number Nothing = 6
+abbrev pub entry_number : Option ℕ → ℕ
+entry_number (Some i) = i
+entry_number None = 6
