@@ -6,6 +6,8 @@ ghost use Rattle.verdict.specs.Verdict.{slverr};
 ghost use Rattle.parts.specs.Access.{config_done, goes_out, config_number, access_of, local_core, drop_config, config_answer};
 ghost use Rattle.verdict.specs.declared.Verdict.TheVariants.{Failed};
 ghost use Rattle.ecam.specs.Request.{data_word};
+ghost use Rattle.ecam.specs.Route as ecam_route;
+ghost use Rattle.ecam.specs.Code.Routed.{outcome, route_in};
 ghost use Rattle.parts.specs.Code.Struct.{core_from};
 
 use crate::answers::{no_figures, raise_in};
@@ -14,47 +16,33 @@ use crate::{AREA_SIZE, ConfigSlot, Core, FINISHED, FREE, OPEN};
 use common::CFG_TIMEOUT;
 use ecam::Route;
 use messages::queue::DEPTH;
-use refusals::{CONFIG_BUSY, FEW_TAGS, LINK_DOWN, TOO_SHORT};
+use refusals::{CONFIG_BUSY, FEW_TAGS, LINK_DOWN, Refusal, TOO_SHORT};
 use verdict::{Cause, Verdict};
 
 // Whether the request goes out over the link.
 pub fn goes_out(x: Route) -> bool
-    ensures { result ≡ goes_out x }
+    ensures { result ≡ goes_out (route_in x) }
 {
-    match x {
-        Route::OutOfRange => false,
-        Route::Local(_) => false,
-        Route::Type0 => true,
-        Route::Type1 => true,
-        Route::NotRouted => false,
-        Route::DeviceNotZero => false,
-    }
+    matches!(x, Route::Type0 | Route::Type1)
 }
 
 // The refusals in their order: 8, 5, the route's 9, 10 or 11, and of what goes out 4 and 7.
-pub fn config_number(c: Core, x: Route, room: usize) -> u32
-    ensures { (cells : List ℕ) → result ≡ config_number (core_from c cells) x room }
+#[tactic(auto, using(ecam::proofs::Routed::outcome_number, ecam::proofs::Routed::outcome_ok), unfolding(crate::specs::Access::config_number))]
+pub fn config_number(c: Core, x: Result<Route, Refusal>, room: usize) -> u32
+    ensures { (cells : List ℕ) (y : ecam_route.Route) → x ≡ outcome y → result ≡ config_number (core_from c cells) y room }
 {
     if room < AREA_SIZE {
         return TOO_SHORT;
     }
-    let number = ecam::number_of(x);
-    let config = c.config;
-    if config.state != FREE {
+    if c.config.state != FREE {
         return CONFIG_BUSY;
     }
-    if number != 0 {
-        return number;
+    match x {
+        Err(r) => r.number(),
+        Ok(x) if goes_out(x) && !c.registers.link => LINK_DOWN,
+        Ok(x) if goes_out(x) && tags::available(c.free) == 0 => FEW_TAGS,
+        Ok(_) => 0,
     }
-    let out = goes_out(x);
-    let registers = c.registers;
-    if out & !registers.link {
-        return LINK_DOWN;
-    }
-    if out & (tags::available(c.free) == 0) {
-        return FEW_TAGS;
-    }
-    0
 }
 
 // A local access, of word w, finishes at once.
