@@ -2,13 +2,12 @@
 use mathlib.Core.Path.{◌≡◌, refl, sym, ap, ◌∙◌}
 use mathlib.Core.Bool.{Bool, true, false, cond, not, ◌&&◌}
 use mathlib.Core.Logic.{⊎_elim}
-use Prim.Native.Nat.{ℕ, zero, suc, ◌+◌, ◌-◌, ◌/◌, ◌%◌, ◌^◌, ◌≤◌, ◌<◌, suc-le-suc}
-use native.Mathlib.Nat.{div-one, pow-suc, pow-succ', div-div-eq-div-mul, mod-lt, not-suc-le-zero, le_of_suc-le-suc, zero-lt-suc, le_of_eq, eq-or-lt_of_le, div-eq_of_lt, lt_of_lt_of_le}
+use Prim.Native.Nat.{ℕ, zero, suc, ◌+◌, ◌-◌, ◌/◌, ◌%◌, ◌^◌, ◌≤◌, ◌<◌}
+use native.Mathlib.Nat.{div-one, pow-suc, pow-succ', div-div-eq-div-mul, mod-lt, not-suc-le-zero, le_of_suc-le-suc, zero-lt-suc, le_of_eq, eq-or-lt_of_le}
 use native.Mathlib.Omega.{arith}
 use lib.Dec.{eqb, ltb}
-use lib.Arith.{lt-one}
-use lib.Pow.{pow_mono}
 use borrow.Author.Tests.{eq-eqb, ne_eqb, eqb-true, eqb-false, lt-ltb}
+use Rattle.std.proofs.lemmas.Nat.Bits.{bit_at_above, same_from_bits_below}
 use Rattle.bits.specs.Bits.{bit, is_set, from_bits, set_bit, clear_bit}
 use Rattle.bits.specs.Laws.{FromBitsHas, FromBitsFits, NoneAbove, SameBits, IsSetAt, SetSets, IsClearAt, ClearClears}
 
@@ -60,23 +59,13 @@ same_set a b i j e = by (is_set b j) refl
 
 -- ---- past a word's bits; words with the same bits
 
-high_bit : (n w i : ℕ) → w < 2 ^ n → n ≤ i → bit w i ≡ 0
-unfolding bit
-high_bit n w i h l = ap (λ (x : ℕ). x % 2) (div-eq_of_lt (lt_of_lt_of_le h (pow_mono l)))
-
 pub none_above : NoneAbove
-none_above n w i h l = bit_clear w i (high_bit n w i h l)
-
-bits_same : (n a b : ℕ) → a < 2 ^ n → b < 2 ^ n → ((i : ℕ) → i < n → bit a i ≡ bit b i) → a ≡ b
-bits_same zero a b ha hb s = lt-one ha ∙ sym (lt-one hb)
-bits_same (suc n) a b ha hb s =
-    let halves : a / 2 ≡ b / 2 =
-    bits_same n (a / 2) (b / 2) (half_fits n a ha) (half_fits n b hb)
-    (λ i h. sym (next_bit a i) ∙ s (suc i) (suc-le-suc h) ∙ next_bit b i) in
-    omega (arith, first_bit a, first_bit b, s 0 (zero-lt-suc n))
+unfolding bit
+none_above n w i h l = bit_clear w i (bit_at_above w n i h l)
 
 pub same_bits : SameBits
-same_bits n a b ha hb s = bits_same n a b ha hb (λ i h. same_set a b i i (s i h))
+unfolding bit
+same_bits n a b ha hb s = same_from_bits_below n a b ha hb (λ i h. same_set a b i i (s i h))
 
 -- ---- a sum with a power of two whose bit is free
 
@@ -149,7 +138,7 @@ from_bits_has (suc n) f i h =
     (eq-or-lt_of_le (le_of_suc-le-suc h))
   where
     free : bit (from_bits n f) n ≡ 0
-    free = high_bit n (from_bits n f) n (from_bits_fits n f) (le_of_eq refl)
+    free = clear_bit_lem _ n (none_above n (from_bits n f) n (from_bits_fits n f) (le_of_eq refl))
 
     top : (x : Bool) → is_set (from_bits n f + cond x (2 ^ n) 0) n ≡ x
     top true = bit_set (from_bits n f + 2 ^ n) n (sum_here n (from_bits n f) free)

@@ -1,30 +1,22 @@
 -- The bits of the operators on words.
 use mathlib.Core.Path.{◌≡◌, refl, ap, ◌∙◌}
 use mathlib.Core.Bool.{Bool, true, false, not, ◌&&◌, ◌||◌}
-use Prim.Native.Nat.{ℕ, zero, suc, ◌+◌, ◌-◌, ◌*◌, ◌/◌, ◌%◌, ◌^◌, ◌<◌, min, max}
-use native.Mathlib.Nat.{pow-suc, not-suc-le-zero, le_of_suc-le-suc, one-mul}
+use Prim.Native.Nat.{ℕ, zero, suc, ◌+◌, ◌-◌, ◌/◌, ◌^◌, ◌<◌, min, max}
+use native.Mathlib.Nat.{pow-suc, not-suc-le-zero, le_of_suc-le-suc}
 use native.Mathlib.Omega.{arith}
-use lib.Dec.{lit<}
-use lib.Arith.{digits_mod}
-use lib.Pow.{shl_exact}
-use lib.Bits.{bit_and, bit_or, or_step, and_step, or_shr, and_shr}
+use lib.Bits.{bit_and, bit_or}
+use Rattle.std.proofs.lemmas.Nat.Bits.{bit_at_and, bit_at_or}
 use Rattle.bits.specs.Bits.{bit, is_set}
 use Rattle.bits.specs.Laws.{AndBits, OrBits, NotBits}
 use Rattle.bits.proofs.Bits.{first_bit, next_bit, bit_small, half_fits, set_bit_lem, clear_bit_lem, bit_set, bit_clear}
 
 and_bit : (a b i : ℕ) → bit (bit_and a b) i ≡ min (bit a i) (bit b i)
 unfolding bit
-and_bit a b i = ap (λ (x : ℕ). x % 2) (and_shr a b i) ∙ low (a / 2 ^ i) (b / 2 ^ i)
-  where
-    low : (x y : ℕ) → bit_and x y % 2 ≡ min (x % 2) (y % 2)
-    low x y = ap (λ (z : ℕ). z % 2) (and_step x y) ∙ digits_mod (bit_and (x / 2) (y / 2)) (omega arith)
+and_bit = bit_at_and
 
 or_bit : (a b i : ℕ) → bit (bit_or a b) i ≡ max (bit a i) (bit b i)
 unfolding bit
-or_bit a b i = ap (λ (x : ℕ). x % 2) (or_shr a b i) ∙ low (a / 2 ^ i) (b / 2 ^ i)
-  where
-    low : (x y : ℕ) → bit_or x y % 2 ≡ max (x % 2) (y % 2)
-    low x y = ap (λ (z : ℕ). z % 2) (or_step x y) ∙ digits_mod (bit_or (x / 2) (y / 2)) (omega arith)
+or_bit = bit_at_or
 
 pub and_bits : AndBits
 and_bits a b i = by (is_set a i) (is_set b i) refl refl
@@ -58,7 +50,3 @@ not_bits n w i h l = by (is_set w i) refl
     by : (x : Bool) → is_set w i ≡ x → is_set ((2 ^ n - 1) - w) i ≡ not (is_set w i)
     by true p = rw p (bit_clear ((2 ^ n - 1) - w) i (omega (arith, not_bit n w i h l, set_bit_lem w i p)))
     by false p = rw p (bit_set ((2 ^ n - 1) - w) i (omega (arith, not_bit n w i h l, clear_bit_lem w i p)))
-
--- `1 << t` in a word of n bits
-pub shifted_one : (n t : ℕ) → t < n → (1 * 2 ^ t) % 2 ^ n ≡ 2 ^ t
-shifted_one n t h = shl_exact 1 t n (lit< tt) (omega arith) ∙ one-mul (2 ^ t)

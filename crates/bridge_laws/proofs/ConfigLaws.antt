@@ -15,8 +15,8 @@ use Rattle.tags.proofs.Tags.{lowest_is, take_one_less}
 use Rattle.tlp.specs.Request.{valid_request, target_bytes, request_bytes, read_request}
 use Rattle.tlp.specs.Laws.{Address}
 use Rattle.tlp.proofs.Laws.{request_laws}
-use Rattle.ecam.specs.declared.Route.{Route}
-use Rattle.ecam.specs.declared.Route.TheVariants.{OutOfRange, Local, Type0, Type1, NotRouted, DeviceNotZero}
+use Rattle.ecam.specs.Route.{Route}
+use Rattle.ecam.specs.Route.{OutOfRange, Local, Type0, Type1, NotRouted, DeviceNotZero}
 use Rattle.ecam.specs.Route.{number_of}
 use Rattle.ecam.specs.Request.{config_target, config_request, data_bytes}
 use Rattle.ecam.proofs.Requests.{config_request_valid}

@@ -1,4 +1,6 @@
 pub mod Words
+pub mod Reach
+pub mod Routed
 pub mod Routes
 pub mod Named
 pub mod Requests

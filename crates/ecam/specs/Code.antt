@@ -1,2 +1,3 @@
--- What stands between the definitions and the code: the registers that a struct of the code means.
+-- What stands between the definitions and the code: the registers that a struct of the code means, and the routes.
 pub mod Struct
+pub mod Routed

@@ -5,7 +5,7 @@ use Rattle.bits.specs.Bits.{is_set}
 use Rattle.messages.specs.Queue.{depth, is_empty}
 use Rattle.tlp.specs.Request.{valid_request}
 use Rattle.ecam.specs.Fields.{Registers}
-use Rattle.ecam.specs.declared.Route.{Route}
+use Rattle.ecam.specs.Route.{Route}
 use Rattle.ecam.specs.Registers.{is_decode_bit, is_error_bit, decode_word, byte, strobe, strobed, reached, status_control, error_fifo_overflow, error_fifo_read, local_read, local_write, with_decode, raised, messaged, line, fresh}
 use Rattle.ecam.specs.Request.{config_request, data_bytes, data_word}
 

@@ -2,9 +2,16 @@
 use Rattle.std.specs.Prelude.{ℕ, ◌+◌, ◌^◌, Bool, cond, not, ◌&&◌, leb, eqb}
 use Rattle.refusals.specs.Table.{offset_over, not_routed, wrong_device}
 use Rattle.ecam.specs.Fields.{Registers}
-use Rattle.ecam.specs.declared.Route.{Route}
-use Rattle.ecam.specs.declared.Route.TheVariants.{OutOfRange, Local, Type0, Type1, NotRouted, DeviceNotZero}
 use Rattle.ecam.specs.Offset.{device, bus, word}
+
+-- out of range; a local word; a request of type 0 or of type 1; not routed; not device 0
+pub data Route : Type 0 where
+  OutOfRange : Route
+  Local : ℕ → Route
+  Type0 : Route
+  Type1 : Route
+  NotRouted : Route
+  DeviceNotZero : Route
 
 -- row 9: offset at or over 2^(20+n)
 abbrev pub out_of_range : ℕ → ℕ → Bool

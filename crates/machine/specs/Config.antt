@@ -2,8 +2,8 @@
 -- `parts`, the request of a routed one in Routed, and passed on.
 use Rattle.std.specs.Prelude.{ℕ, List, [], cond, length, eqb}
 use Rattle.tags.specs.Tags.{lowest}
-use Rattle.ecam.specs.declared.Route.{Route}
-use Rattle.ecam.specs.declared.Route.TheVariants.{OutOfRange, Local, Type0, Type1, NotRouted, DeviceNotZero}
+use Rattle.ecam.specs.Route.{Route}
+use Rattle.ecam.specs.Route.{OutOfRange, Local, Type0, Type1, NotRouted, DeviceNotZero}
 use Rattle.ecam.specs.Route.{route}
 use Rattle.refusals.specs.declared.Response.TheVariants.{Nothing}
 pub use Rattle.parts.specs.Pendings.{word_pending}

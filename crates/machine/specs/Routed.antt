@@ -1,7 +1,7 @@
 -- A configuration access by its route (01, 'Configuration space').
 use Rattle.std.specs.Prelude.{ℕ, List, [], Bool, cond}
 use Rattle.tlp.specs.declared.request.Request.{Request}
-use Rattle.ecam.specs.declared.Route.{Route}
+use Rattle.ecam.specs.Route.{Route}
 use Rattle.ecam.specs.Request.{config_request, data_bytes}
 use Rattle.parts.specs.Access.{Access}
 

@@ -7,8 +7,10 @@ use lib.ListN.{length, get_or, set}
 use lib.Dec.{eqb, leb}
 use lib.Seq.{get_or-set_same, get_or-set_other}
 use borrow.Author.Tests.{ne_eqb, le-leb, lt-leb}
-use Rattle.messages.specs.Queue.{is_empty, is_full, oldest, push, pop}
-use Rattle.messages.specs.Code.Cells.{entries}
+use Rattle.std.specs.Prelude.{Some, None}
+use Rattle.std.proofs.lemmas.List.{get_or_read}
+use Rattle.messages.specs.Queue.{is_empty, is_full, push, pop}
+use Rattle.messages.specs.Code.Cells.{entries, first}
 
 -- as many as there are said to be
 pub entries_length : (f n : ℕ) (cells : List ℕ) → length (entries f n cells) ≡ n
@@ -56,9 +58,13 @@ full_is f n cells = ap (leb 32) (sym (entries_length f n cells))
 
 -- ---- as the code does it
 
-pub oldest_is : (f n : ℕ) (cells : List ℕ) → (n ≡ 0 → ⊥) → get_or cells (f % 32) 0 ≡ oldest (entries f n cells)
-oldest_is f zero cells h = absurd (h refl)
-oldest_is f (suc n) cells h = refl
+pub first_none : (f n : ℕ) (cells : List ℕ) → n ≡ 0 → None ≡ first (entries f n cells)
+first_none f zero cells h = refl
+first_none f (suc n) cells h = absurd (omega (arith, h))
+
+pub first_some : (f n : ℕ) (cells : List ℕ) (x : ℕ) → (n ≡ 0 → ⊥) → x ≡ get_or cells (f % 32) x → f % 32 < length cells → Some x ≡ first (entries f n cells)
+first_some f zero cells x h e l = absurd (h refl)
+first_some f (suc n) cells x h e l = ap Some (get_or_read cells (f % 32) x l e 0)
 
 pub pop_none : (f n : ℕ) (cells : List ℕ) → n ≡ 0 → entries f n cells ≡ pop (entries f n cells)
 pop_none f zero cells h = refl

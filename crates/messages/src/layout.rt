@@ -1,115 +1,117 @@
 // The bytes of an error message.
-ghost use Rattle.std.specs.Prelude.{true, ◌≡◌, ◌+◌, ◌*◌, ◌^◌, ◌≤◌, ◌<◌, length};
-ghost use Rattle.messages.specs.Layout.{is_error_code, type_of, error_bit, three_zeros, eight_zeros, is_error_message, code_of, requester_of, entry_of};
+ghost use Rattle.std.specs.Prelude.{◌≡◌, ℕ, List, length, true};
+ghost use Rattle.messages.specs.Layout.{error_bit, code_of, entry_of, is_error_message};
+ghost use Rattle.messages.specs.Code.Message.{code_number, type_number, is_code, is_laid, reads, IsMessage};
 
-use common::wide;
+use refusals::Refusal;
 
-// The first byte, and how many there are.
-const MESSAGE: u32 = 0x30;
+// The first byte, a message without data that is routed to the root, and how many there are.
+const MESSAGE: u8 = 0x30;
 
 const LENGTH: usize = 16;
 
-const ERR_COR: u32 = 0x30;
-
-const ERR_NONFATAL: u32 = 0x31;
-
-const ERR_FATAL: u32 = 0x33;
-
-// Where 154 has the type and valid.
+// Where 154 has the type, and valid.
 const TYPE: u32 = 0x0001_0000;
 
 const VALID: u32 = 0x0004_0000;
 
-fn is_error_code(code: u32) -> bool
-    ensures { result ≡ is_error_code code }
-{
-    (code == ERR_COR) | (code == ERR_NONFATAL) | (code == ERR_FATAL)
+// An error message's code.
+#[derive(Clone, Copy, Debug, PartialEq, Eq)]
+pub enum ErrorCode {
+    Correctable,
+    NonFatal,
+    Fatal,
 }
 
-// The type that 154 shows.
-fn type_of(code: u32) -> u32
-    ensures { (result ≡ type_of code) × (result ≤ 2) }
-{
-    if code == ERR_COR {
-        return 0;
+impl ErrorCode {
+    // ERR_COR, ERR_NONFATAL, ERR_FATAL; no other byte is an error's code.
+    fn of(code: u8) -> Option<ErrorCode>
+        ensures { is_code code result }
+    {
+        match code {
+            0x30 => Some(ErrorCode::Correctable),
+            0x31 => Some(ErrorCode::NonFatal),
+            0x33 => Some(ErrorCode::Fatal),
+            _ => None,
+        }
     }
-    if code == ERR_NONFATAL {
-        return 1;
+
+    // Its decode bit.
+    pub fn decode_bit(self) -> u32
+        ensures { result ≡ error_bit (code_number self) }
+    {
+        match self {
+            ErrorCode::Correctable => common::CORRECTABLE,
+            ErrorCode::NonFatal => common::NON_FATAL,
+            ErrorCode::Fatal => common::FATAL,
+        }
     }
-    2
-}
 
-// The decode bit of a code.
-pub fn error_bit(code: u32) -> u32
-    ensures { result ≡ error_bit code }
-{
-    if code == ERR_COR {
-        return common::CORRECTABLE;
+    // The type that 154 shows.
+    fn shown_type(self) -> u32
+        ensures { result ≡ type_number self }
+    {
+        match self {
+            ErrorCode::Correctable => 0,
+            ErrorCode::NonFatal => 1,
+            ErrorCode::Fatal => 2,
+        }
     }
-    if code == ERR_NONFATAL {
-        return common::NON_FATAL;
+}
+
+// The bytes round the requester ID, the tag and the code.
+fn is_laid(s: &[u8]) -> bool
+    ensures { (result ≡ is_laid s.now) × (result ≡ true → length s.now ≡ 16) }
+{
+    s.len() == LENGTH && s.starts_with(&[MESSAGE, 0, 0, 0]) && s.ends_with(&[0; 8])
+}
+
+// An error message: who sends it, and which error it reports.
+#[derive(Clone, Copy, Debug, PartialEq, Eq)]
+pub struct ErrorMessage {
+    pub requester: u16,
+    pub code: ErrorCode,
+}
+
+impl ErrorMessage {
+    // Reads the 16 bytes of a message. Any tag is taken; a byte that the layout has as 0 must be 0.
+    #[tactic(auto, using(crate::proofs::Bytes::not_laid, crate::proofs::Bytes::no_code, crate::proofs::Bytes::taken))]
+    pub fn read(s: &[u8]) -> Result<ErrorMessage, Refusal>
+        ensures { reads s.now result }
+    {
+        if !is_laid(s) {
+            return Err(Refusal::Malformed);
+        }
+        let code = ErrorCode::of(s[7]).ok_or(Refusal::Malformed)?;
+        Ok(ErrorMessage {
+            requester: u16::from_be_bytes([s[4], s[5]]),
+            code,
+        })
     }
-    common::FATAL
+
+    // The decode bit of its code.
+    pub fn decode_bit(self) -> u32
+        ensures { (s : List ℕ) → IsMessage s self → result ≡ error_bit (code_of s) }
+    {
+        self.code.decode_bit()
+    }
+
+    // The entry that is queued.
+    #[tactic(auto, unfolding(crate::specs::Layout::entry_of))]
+    pub fn entry(self) -> u32
+        ensures { (s : List ℕ) → IsMessage s self → result ≡ entry_of s }
+    {
+        u32::from(self.requester) + self.code.shown_type() * TYPE + VALID
+    }
 }
 
-// Bytes 1 to 3.
-fn three_zeros(s: &[u8]) -> bool
-    requires { 16 ≤ length s.now }
-    ensures { result ≡ three_zeros s.now }
-{
-    (wide(s[1]) == 0) & (wide(s[2]) == 0) & (wide(s[3]) == 0)
-}
-
-// Bytes 8 to 15.
-fn eight_zeros(s: &[u8]) -> bool
-    requires { 16 ≤ length s.now }
-    ensures { result ≡ eight_zeros s.now }
-{
-    (wide(s[8]) == 0)
-        & (wide(s[9]) == 0)
-        & (wide(s[10]) == 0)
-        & (wide(s[11]) == 0)
-        & (wide(s[12]) == 0)
-        & (wide(s[13]) == 0)
-        & (wide(s[14]) == 0)
-        & (wide(s[15]) == 0)
-}
-
+// For callers that are still to change.
+#[tactic(auto, using(crate::proofs::Bytes::long))]
 pub fn is_error_message(s: &[u8]) -> bool
     ensures { (result ≡ is_error_message s.now) × (result ≡ true → length s.now ≡ 16) }
 {
-    let n = s.len();
-    if n != LENGTH {
-        return false;
+    match ErrorMessage::read(s) {
+        Ok(_) => true,
+        Err(_) => false,
     }
-    let kind = wide(s[0]);
-    let code = wide(s[7]);
-    (kind == MESSAGE) & three_zeros(s) & is_error_code(code) & eight_zeros(s)
-}
-
-pub fn code_of(s: &[u8]) -> u32
-    requires { 16 ≤ length s.now }
-    ensures { result ≡ code_of s.now }
-{
-    wide(s[7])
-}
-
-// High byte first.
-fn requester_of(s: &[u8]) -> u32
-    requires { 16 ≤ length s.now }
-    ensures { (result ≡ requester_of s.now) × (result < 2 ^ 16) }
-{
-    let high = wide(s[4]);
-    let low = wide(s[5]);
-    high * 256 + low
-}
-
-// The entry that is queued.
-pub fn entry_of(s: &[u8]) -> u32
-    requires { 16 ≤ length s.now }
-    ensures { result ≡ entry_of s.now }
-{
-    let requester = requester_of(s);
-    let code = code_of(s);
-    requester + type_of(code) * TYPE + VALID
 }

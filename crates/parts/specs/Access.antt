@@ -11,18 +11,13 @@ use Rattle.verdict.specs.declared.Verdict.TheVariants.{Unexpected, Good, Poisone
 use Rattle.refusals.specs.Table.{refused_by, config_order}
 use Rattle.ecam.specs.Request.{data_word}
 use Rattle.tags.specs.Tags.{available}
-use Rattle.ecam.specs.declared.Route.{Route}
-use Rattle.ecam.specs.declared.Route.TheVariants.{OutOfRange, Local, Type0, Type1, NotRouted, DeviceNotZero}
+pub use Rattle.ecam.specs.declared.access.Access.{Access}
+use Rattle.ecam.specs.Route.{Route}
+use Rattle.ecam.specs.Route.{OutOfRange, Local, Type0, Type1, NotRouted, DeviceNotZero}
 use Rattle.ecam.specs.Route.{number_of}
 use Rattle.ecam.specs.Registers.{local_read, local_write}
 
 -- what a configuration call is given
-pub record Access : Type 0 where
-  pub offset : ℕ
-  pub write : Bool
-  pub strobes : ℕ
-  pub word : ℕ
-
 abbrev pub access_of : ℕ → Bool → ℕ → ℕ → Access
 access_of offset write strobes word = record { offset = offset; write = write; strobes = strobes; word = word }
 

@@ -1,29 +1,29 @@
 // The configuration slot: what refuses an access, and what it holds when one is finished.
-ghost use Rattle.std.specs.Prelude.{◌≡◌, ℕ, List, if◌then◌else◌};
+ghost use Rattle.std.specs.Prelude.{◌≡◌, ℕ, List, Ok};
 ghost use Rattle.common.specs.Decode.{cfg_timeout};
 ghost use Rattle.refusals.specs.Refusals.{number_in};
-ghost use Rattle.ecam.specs.Request.{data_word};
+ghost use Rattle.ecam.specs.declared.access.Route as code;
+ghost use Rattle.ecam.specs.Route.{route};
+ghost use Rattle.ecam.specs.Code.Struct.{registers_from};
+ghost use Rattle.ecam.specs.Code.Routed.{route_in};
 ghost use Rattle.verdict.specs.declared.Verdict.TheVariants.{Failed};
 ghost use Rattle.verdict.specs.Verdict.{slverr};
 ghost use Rattle.parts.specs.Cores.{with_config, raised_core, free_config, open_config};
-ghost use Rattle.parts.specs.Access.{config_done, goes_out, config_number, access_of, local_core, drop_config, config_answer};
+ghost use Rattle.parts.specs.Access.{config_done, goes_out, config_number, local_core, drop_config, config_answer};
 ghost use Rattle.parts.specs.Code.Struct.{core_from};
 
 use crate::{AREA_SIZE, ConfigSlot, Core, FINISHED, FREE, Figures, OPEN};
 use common::CFG_TIMEOUT;
-use ecam::Route;
+use ecam::{Access, Route};
 use messages::queue::DEPTH;
 use refusals::Refusal;
 use verdict::{Cause, Verdict};
 
 // Whether the request goes out over the link.
 pub fn goes_out(x: Route) -> bool
-    ensures { result ≡ goes_out x }
+    ensures { result ≡ goes_out (route_in x) }
 {
-    match x {
-        Route::Type0 | Route::Type1 => true,
-        _ => false,
-    }
+    matches!(x, Route::Type0 | Route::Type1)
 }
 
 impl ConfigSlot {
@@ -111,10 +111,12 @@ impl ConfigSlot {
 }
 
 impl Core {
-    // The refusals in their order: 8, 5, the route's 9, 10 or 11, and of what goes out 4 and 7.
-    #[tactic(auto, unfolding(crate::specs::Access::config_number))]
-    pub fn config_refusal(&self, x: Route, room: usize) -> Result<(), Refusal>
-        ensures { (cells : List ℕ) → number_in result ≡ config_number (core_from self.now cells) x room }
+    // Where an access goes that is not refused, with n bus bits. The refusals in their order: 8, 5, the route's 9, 10 or 11, and of
+    // what goes out 4 and 7.
+    #[tactic(auto, using(ecam::proofs::Routed::outcome_number, ecam::proofs::Routed::outcome_ok), unfolding(crate::specs::Access::config_number))]
+    pub fn config_route(&self, n: u32, a: Access, room: usize) -> Result<Route, Refusal>
+        ensures number { (cells : List ℕ) → number_in result ≡ config_number (core_from self.now cells) (route n (registers_from self.now.registers cells) a.offset) room }
+        ensures route { (cells : List ℕ) (x : code.Route) → result ≡ Ok x → route_in x ≡ route n (registers_from self.now.registers cells) a.offset }
     {
         if room < AREA_SIZE {
             return Err(Refusal::TooShort);
@@ -122,40 +124,27 @@ impl Core {
         if self.config.state != FREE {
             return Err(Refusal::ConfigBusy);
         }
-        match x {
-            Route::OutOfRange => return Err(Refusal::OffsetOver),
-            Route::NotRouted => return Err(Refusal::NotRouted),
-            Route::DeviceNotZero => return Err(Refusal::WrongDevice),
-            _ => {}
-        }
-        if goes_out(x) & !self.registers.link {
+        let x = a.route(n, self.registers)?;
+        if goes_out(x) && !self.registers.link {
             return Err(Refusal::LinkDown);
         }
-        if goes_out(x) & (tags::available(self.free) == 0) {
+        if goes_out(x) && tags::available(self.free) == 0 {
             return Err(Refusal::FewTags);
         }
-        Ok(())
+        Ok(x)
     }
 
     // A local access, of word w, finishes at once.
     #[tactic(auto, unfolding(crate::specs::Access::local_core))]
-    pub fn finish_local(
-        &mut self,
-        cells: &[u32; DEPTH],
-        offset: u64,
-        write: bool,
-        strobes: u32,
-        word: u32,
-        w: u32,
-    )
-        ensures { core_from self.new cells.now ≡ local_core (core_from self.old cells.now) (access_of offset write strobes word) w }
+    pub fn finish_local(&mut self, cells: &[u32; DEPTH], a: Access, w: u32)
+        ensures { core_from self.new cells.now ≡ local_core (core_from self.old cells.now) a w }
     {
-        let slot = ConfigSlot::open(write, self.figures());
-        if write {
-            self.registers = ecam::registers::local_write(self.registers, w, strobes, word);
+        let slot = ConfigSlot::open(a.write, self.figures());
+        if a.write {
+            self.registers = self.registers.local_write(w, a.strobes, a.word);
             self.config = slot.done(0, 0);
         } else {
-            self.config = slot.done(0, ecam::registers::local_read(self.registers, cells, w));
+            self.config = slot.done(0, self.registers.local_read(cells, w));
         }
     }
 

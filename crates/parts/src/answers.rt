@@ -73,7 +73,7 @@ impl Core {
     pub fn raise(&mut self, bit: u32)
         ensures { (cells : List ℕ) → core_from self.new cells ≡ raised_core bit (core_from self.old cells) }
     {
-        self.registers.decode = ecam::registers::raise(self.registers.decode, bit);
+        self.registers = self.registers.raise(bit);
     }
 
     // A refused event, with what its row of the refusal table changes.

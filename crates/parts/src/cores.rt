@@ -7,7 +7,7 @@ ghost use Rattle.parts.specs.Code.Struct.{core_from};
 
 use crate::{ConfigSlot, Core, Figures};
 use common::LINK_DOWN_BIT;
-use ecam::registers::fresh_registers;
+use ecam::registers::Registers;
 
 impl Core {
     #[tactic(auto, unfolding(crate::specs::Cores::fresh_core))]
@@ -15,7 +15,7 @@ impl Core {
         ensures { (cells : List ℕ) → core_from result cells ≡ fresh_core }
     {
         Core {
-            registers: fresh_registers(),
+            registers: Registers::fresh(),
             ticks: 0,
             session: 0,
             free: 0xFFFF_FFFF,

@@ -6,17 +6,19 @@ ghost use Rattle.bits.specs.Bits.{set_bit, clear_bit};
 ghost use Rattle.tags.specs.Tags.{lowest, available};
 
 // The lowest free tag, 32 where none is free.
+#[tactic(auto, using(crate::proofs::Tags::lowest_by_zeros))]
 pub fn lowest(free: u32) -> u32
     ensures { result ≡ lowest 32 free }
 {
-    u32::trailing_zeros(free)
+    free.trailing_zeros()
 }
 
 // How many tags are free.
+#[tactic(auto, using(crate::proofs::Tags::available_by_ones))]
 pub fn available(free: u32) -> u32
     ensures { result ≡ available 32 free }
 {
-    u32::count_ones(free)
+    free.count_ones()
 }
 
 // The word once tag t is taken; a tag that is not free, or none, changes nothing.

@@ -1,5 +1,5 @@
 -- The queue that an array of cells holds, in a circle: `count` entries, the oldest in the cell `first` mod 32.
-use Rattle.std.specs.Prelude.{ℕ, zero, suc, ◌+◌, ◌%◌, List, [], ◌∷◌, cond, get_or, set, leb}
+use Rattle.std.specs.Prelude.{ℕ, zero, suc, ◌+◌, ◌%◌, List, [], ◌∷◌, cond, get_or, set, leb, Option, Some, None}
 use Rattle.messages.specs.Queue.{depth}
 use Rattle.messages.specs.declared.queue.Ring.{Ring}
 
@@ -13,3 +13,8 @@ queue_of r cells = entries r.first r.count cells
 -- the cells after an entry has come: the one behind the newest has it; a full queue's stay
 abbrev pub cells_after : Ring → List ℕ → ℕ → List ℕ
 cells_after r cells e = cond (leb depth r.count) cells (set cells ((r.first % depth + r.count) % depth) e)
+
+-- the oldest entry, where there is one
+abbrev pub first : List ℕ → Option ℕ
+first [] = None
+first (e ∷ q) = Some e

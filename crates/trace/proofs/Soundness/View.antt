@@ -10,8 +10,8 @@ use borrow.Author.Tests.{eqb-true, eqb-false, le-ltb}
 use Rattle.std.specs.Prelude.{Ok}
 use Rattle.tlp.specs.declared.completion.Completion.{Completion}
 use Rattle.ecam.specs.Registers.{Registers, messaged}
-use Rattle.ecam.specs.declared.Route.{Route}
-use Rattle.ecam.specs.declared.Route.TheVariants.{OutOfRange, Local, Type0, Type1, NotRouted, DeviceNotZero}
+use Rattle.ecam.specs.Route.{Route}
+use Rattle.ecam.specs.Route.{OutOfRange, Local, Type0, Type1, NotRouted, DeviceNotZero}
 use Rattle.burst.specs.declared.Burst.{Burst}
 use Rattle.machine.specs.Bridge.{Bridge}
 use Rattle.verdict.specs.declared.Verdict.{Verdict}

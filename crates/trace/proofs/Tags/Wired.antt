@@ -9,7 +9,7 @@ use native.Mathlib.Nat.{add-zero}
 use native.Mathlib.Decide.{dec_lt}
 use lib.ListN.{length}
 use lib.Dec.{eqb}
-use Rattle.ecam.specs.declared.Route.TheVariants.{Local}
+use Rattle.ecam.specs.Route.{Local}
 use Rattle.address.specs.declared.Settings.{Settings}
 use Rattle.parts.specs.Cores.{Core}
 use Rattle.machine.specs.State.{Bridge, with_ticks, core_in, tag_at, slot_count}

@@ -1,4 +1,0 @@
-use Rattle.messages.proofs.layout.eight_zeros.Goals as goal
-
-pub returns : goal.returns
-returns c = rw (← c.wide.ensures.0, ← c.wide-2.ensures.0, ← c.wide-3.ensures.0, ← c.wide-4.ensures.0, ← c.wide-5.ensures.0, ← c.wide-6.ensures.0, ← c.wide-7.ensures.0, ← c.wide-8.ensures.0)
