@@ -1,10 +1,10 @@
 use Rattle.parts.specs.Access.{local_core}
 use Rattle.parts.proofs.Core.finish_local.Goals as goal
 
-pub returns-then-write : goal.returns-then-write
+pub returns-then-a : goal.returns-then-a
 unfolding local_core
-returns-then-write c = rw (c.done-self.ensures, c.local_write-self.ensures, c.open-slot.ensures, c.figures.ensures c.args.cells.now, c.if-write.true)
+returns-then-a c = rw (c.done-self.ensures, c.local_write-self.ensures, c.open-slot.ensures, c.figures.ensures c.args.cells.now, c.if-a.true)
 
-pub returns-else-write : goal.returns-else-write
+pub returns-else-a : goal.returns-else-a
 unfolding local_core
-returns-else-write c = rw (c.done-self-else-write.ensures, c.local_read.ensures, c.open-slot.ensures, c.figures.ensures c.args.cells.now, c.if-write.false)
+returns-else-a c = rw (c.done-self-else-a.ensures, c.local_read.ensures, c.open-slot.ensures, c.figures.ensures c.args.cells.now, c.if-a.false)
