@@ -13,7 +13,7 @@ use Rattle.refusals.specs.Refusals.{number_of}
 use Rattle.tags.specs.Tags.{available}
 use Rattle.address.specs.Windows.{found_number}
 use Rattle.burst.specs.declared.Burst.{Burst}
-use Rattle.burst.specs.Bursts.{burst_number, length_of, data_number}
+use Rattle.burst.specs.Bursts.{burst_right, burst_number, length_of, data_number}
 use Rattle.machine.specs.Bridge.{Bridge}
 use Rattle.refusals.specs.declared.Response.TheVariants.{Nothing, Okay}
 use Rattle.machine.specs.State.{tag_count, free_slot, accepted, answered, refused}
@@ -100,6 +100,19 @@ write_ok b q len room e =
 data_by_lem : (x : Bool) → ◌≡◌ {A = ℕ} (cond x 0 15) 0 → x ≡ true
 data_by_lem true e = refl
 data_by_lem false e = let z : ◌≡◌ {A = ℕ} 0 1 = omega arith in cc
+
+-- the number that a refused check has
+zero_or : (x : Bool) (n k : ℕ) → (k ≡ 0 → ⊥) → k ≡ cond x 0 n → cond x 0 n ≡ n
+zero_or true n k f e = absurd (f e)
+zero_or false n k f e = refl
+
+pub wrong_burst_is : (q : Burst) (r : Refusal) → number_of r ≡ burst_number q → burst_number q ≡ 3
+unfolding burst_number
+wrong_burst_is q r e = zero_or (burst_right q) 3 (number_of r) (not_zero r) e
+
+pub wrong_data_is : (q : Burst) (len : ℕ) (r : Refusal) → number_of r ≡ data_number q len → data_number q len ≡ 15
+unfolding data_number
+wrong_data_is q len r e = zero_or (eqb len (length_of q)) 15 (number_of r) (not_zero r) e
 
 -- accepted data has the burst's length
 pub data_length : (q : Burst) (len : ℕ) → data_number q len ≡ 0 → len ≡ length_of q

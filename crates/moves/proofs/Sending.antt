@@ -8,7 +8,9 @@ use borrow.Author.Tests.{le-ltb}
 use lib.ListN.{length, take, drop, length-append, length-drop}
 use lib.Seq.{paste, take_all, take_at, drop-append-add, drop-drop}
 use lib.Dec.{ltb, lit≤}
-use Rattle.tlp.specs.declared.Written.{Written}
+use Rattle.std.specs.Prelude.{Result, Ok, Err}
+use Rattle.refusals.specs.declared.Refusal.{Refusal}
+use Rattle.refusals.specs.declared.Refusal.TheVariants.{Malformed}
 use Rattle.tlp.specs.declared.request.Target.{Target}
 use Rattle.tlp.specs.declared.request.Target.TheVariants.{Memory, Config0, Config1}
 use Rattle.tlp.specs.declared.request.Request.{Request}
@@ -34,25 +36,29 @@ abbrev pub Packet : Bool → List ℕ → List ℕ → List ℕ
 Packet valid header payload = cond valid (header ++ payload) []
 
 -- a header that is refused leaves nothing
-pub nothing_sent : (area header payload : List ℕ) (valid : Bool) (w : Written) → 16 ≤ length area → w ≡ write_header (length area) valid header
-    → (w.number ≡ 0 → ⊥)
+pub nothing_sent : (area header payload : List ℕ) (valid : Bool) (w : Result ℕ Refusal) → 16 ≤ length area → w ≡ write_header (length area) valid header
+    → ((n : ℕ) → w ≡ Ok n → ⊥)
     → (0 ≡ length (Packet valid header payload))
     × (area_after area valid header ≡ Packet valid header payload ++ drop (length (Packet valid header payload)) area)
 unfolding write_header area_after
-nothing_sent area header payload true w h e n = absurd (n (rw (e, le-ltb _ _ h)))
+nothing_sent area header payload true w h e n = absurd (n (length header) (rw (e, le-ltb _ _ h)))
 nothing_sent area header payload false w h e n = (refl, rw (le-ltb _ _ h))
 
--- a header that is written
-pub record Sent (area header : List ℕ) (valid : Bool) (w : Written) : Type 0 where
+-- a header that is written, of n bytes
+pub record Sent (area header : List ℕ) (valid : Bool) (n : ℕ) : Type 0 where
   pub right : valid ≡ true
-  pub size : w.length ≡ length header
+  pub size : n ≡ length header
   pub after : area_after area valid header ≡ header ++ drop (length header) area
 
-pub header_sent : (area header : List ℕ) (valid : Bool) (w : Written) → 16 ≤ length area → w ≡ write_header (length area) valid header
-    → w.number ≡ 0 → Sent area header valid w
+pub header_sent : (area header : List ℕ) (valid : Bool) (n : ℕ) → 16 ≤ length area → Ok n ≡ write_header (length area) valid header
+    → Sent area header valid n
 unfolding write_header area_after
-header_sent area header true w h e n = record { right = refl; size = rw (e, le-ltb _ _ h); after = rw (le-ltb _ _ h) }
-header_sent area header false w h e n = absurd (let z : w.number ≡ 12 = rw (e, le-ltb _ _ h) in omega arith)
+header_sent area header true n h e =
+    let z : ◌≡◌ {A = Result ℕ Refusal} (Ok n) (Ok (length header)) = rw (le-ltb _ _ h) at e in
+    record { right = refl; size = cc; after = rw (le-ltb _ _ h) }
+header_sent area header false n h e =
+    let z : ◌≡◌ {A = Result ℕ Refusal} (Ok n) (Err Malformed) = rw (le-ltb _ _ h) at e in
+    let y : ◌≡◌ {A = ℕ} 0 1 = cc in absurd (omega (arith, y))
 
 -- bytes put behind a header
 pub put_behind : (area header bytes : List ℕ) → paste (header ++ drop (length header) area) (length header) bytes (length bytes)

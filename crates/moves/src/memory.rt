@@ -19,22 +19,18 @@ pub fn read_slot(b: &State, q: Burst, room: usize) -> Result<usize, Refusal>
     if room < AREA_SIZE {
         return Err(Refusal::TooShort);
     }
-    if burst::burst_number(q) != 0 {
-        return Err(Refusal::WrongBurst);
-    }
+    q.check()?;
     if no_window(b.settings.windows, q.start) {
         return Err(Refusal::NoWindow);
     }
     if !b.core.registers.link {
         return Err(Refusal::LinkDown);
     }
-    if (b.core.config.state == OPEN) & !b.core.config.write {
+    if b.core.config.state == OPEN && !b.core.config.write {
         return Err(Refusal::ConfigBusy);
     }
-    let Some(slot) = b.free_slot() else {
-        return Err(Refusal::SlotsUsed);
-    };
-    let pieces = burst::piece_count(b.settings.reads, q.start.0, burst::length_of(q));
+    let slot = b.free_slot().ok_or(Refusal::SlotsUsed)?;
+    let pieces = burst::piece_count(b.settings.reads, q.start.0, q.length());
     if tags::available(b.core.free) < pieces {
         return Err(Refusal::FewTags);
     }
@@ -49,15 +45,11 @@ pub fn check_write(b: &State, q: Burst, len: usize, room: usize) -> Result<(), R
     if room < AREA_SIZE {
         return Err(Refusal::TooShort);
     }
-    if burst::burst_number(q) != 0 {
-        return Err(Refusal::WrongBurst);
-    }
+    q.check()?;
     if no_window(b.settings.windows, q.start) {
         return Err(Refusal::NoWindow);
     }
-    if burst::data_number(q, len) != 0 {
-        return Err(Refusal::WrongData);
-    }
+    q.check_data(len)?;
     if !b.core.registers.link {
         return Err(Refusal::LinkDown);
     }

@@ -15,7 +15,6 @@ ghost use Rattle.machine.specs.Code.Tables.{bridge_of};
 use crate::tagged::open;
 use address::AxiAddress;
 use burst::Burst;
-use common::copy_at;
 use packets::{Shift, head_of, memory_request};
 use parts::{OPEN, Pending, SLOT_SIZE, SlotRow, State};
 
@@ -36,13 +35,14 @@ pub fn read_turn(
     ensures area { area.new ≡ paste area.old at (packet (memory_request false b.old.settings.requester (lowest tag_count b.old.core.free) (translated shift.base shift.target (axi (piece_of b.old.settings.reads q k).first)).0 (piece_of b.old.settings.reads q k).length) []) (length (packet (memory_request false b.old.settings.requester (lowest tag_count b.old.core.free) (translated shift.base shift.target (axi (piece_of b.old.settings.reads q k).first)).0 (piece_of b.old.settings.reads q k).length) [])) }
 {
     let p = burst::piece_at(b.settings.reads, q.start.0, n, k);
-    let a = address::translate(shift.base, shift.target, AxiAddress(p.first));
+    let a = shift.translate(AxiAddress(p.first));
     let tag = tags::lowest(b.core.free);
     let h = head_of(memory_request(false, b.settings.requester, tag, a, p.length));
-    copy_at(area, at, &h.bytes, h.length);
+    let end = at + h.length;
+    area[at..end].copy_from_slice(&h.bytes[..h.length]);
     let place = (p.first - q.start.0) as u32;
     open(b, Pending::memory(slot as u32, place, p.length, a.0));
-    at + h.length
+    end
 }
 
 // A slot waits for a burst, which is accepted in this session.
@@ -51,7 +51,7 @@ pub fn claim(b: &mut State, slot: usize, q: Burst)
     requires { slot < slot_count }
     ensures { (cells : List ℕ) → bridge_of cells b.new ≡ claimed slot q (bridge_of cells b.old) }
 {
-    let n = burst::length_of(q);
+    let n = q.length();
     b.slots[slot] = SlotRow {
         state: OPEN,
         size: n,

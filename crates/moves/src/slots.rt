@@ -9,7 +9,7 @@ ghost use Rattle.machine.specs.Code.Tables.{bridge_of, held_of};
 use common::zero_at;
 use parts::numbers::within_slot;
 use parts::{FINISHED, OPEN, SLOT_SIZE, SlotRow, State};
-use verdict::{Cause, cause_bit, cause_response};
+use verdict::Cause;
 
 // The first n bytes of slot k are zero.
 pub fn clear_slot(store: &mut [u8], k: usize, n: usize)
@@ -41,8 +41,8 @@ pub fn fail(b: &mut State, k: usize, place: u32, why: Cause)
     requires { k < slot_count }
     ensures { (cells : List ℕ) → bridge_of cells b.new ≡ failed k place why (bridge_of cells b.old) }
 {
-    fault(b, k, place, cause_response(why));
-    b.core.raise(cause_bit(why));
+    fault(b, k, place, why.response().code());
+    b.core.raise(why.decode_bit());
 }
 
 // The read in slot k is finished, and its bytes are zero unless it is OKAY.
