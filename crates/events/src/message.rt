@@ -14,6 +14,7 @@ use parts::{Accepted, Answer, State};
 use refusals::Refusal;
 
 // A message of any bytes, with the cells of the queue.
+#[tactic(auto, unfolding(machine::specs::Messages::message_step, machine::specs::Messages::message_number, machine::specs::State::refused))]
 pub fn message_in(b: &mut State, cells: &mut [u32; DEPTH], packet: &[u8]) -> Answer
     ensures step { answered (bridge_of cells.new b.new) (answer_of result) ≡ message_step (bridge_of cells.old b.old) packet.now }
     ensures cells { cells.new ≡ cond (eqb (message_number (registers_from b.old.core.registers cells.old) packet.now) 0) (cells_after b.old.core.registers.errors cells.old (entry_of packet.now)) cells.old }
