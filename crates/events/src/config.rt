@@ -12,6 +12,7 @@ use parts::{Accepted, Answer, CONFIG_SLOT, State};
 use refusals::Response;
 
 // A configuration access. A local one may read the queued messages.
+#[tactic(auto, unfolding(machine::specs::Config::config_step, machine::specs::Config::config_area, machine::specs::Config::routed_bridge, machine::specs::State::refused))]
 pub fn config_in(
     b: &mut State,
     cells: &[u32; DEPTH],
