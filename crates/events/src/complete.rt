@@ -29,7 +29,7 @@ fn finish_config(b: &mut State, tag: u32, payload: &[u8], v: Verdict)
 }
 
 // The verdict on a completion, by the request of its tag; the requester ID must be ours, and the tag open.
-#[tactic(auto, unfolding(machine::specs::Completions::verdict_of))]
+#[tactic(auto, using(machine::proofs::Judging::verdict_fits, machine::proofs::Tables::place_cell, machine::proofs::Tables::owner_cell, machine::proofs::Tables::kind_cell), unfolding(machine::specs::Completions::verdict_of))]
 fn verdict_in(b: &State, h: Completion) -> Verdict
     ensures verdict { (cells : List ℕ) → result ≡ verdict_of (bridge_of cells b.now) h }
     ensures expects { (cells : List ℕ) → is_unexpected result ≡ false → Expects (bridge_of cells b.now) h result }
