@@ -69,7 +69,7 @@ fn header_in(b: &mut State, store: &mut [u8], h: Completion, payload: &[u8]) -> 
 }
 
 // A completion of any bytes.
-#[tactic(auto, unfolding(machine::specs::Completions::completed, machine::specs::Completions::complete_refusal))]
+#[tactic(auto, using(crate::proofs::Completing::header_valid, crate::proofs::Completing::header_length, crate::proofs::Completing::behind_header, crate::proofs::Completing::one_test), unfolding(machine::specs::Completions::completed, machine::specs::Completions::complete_refusal))]
 pub fn complete_in(b: &mut State, store: &mut [u8], packet: &[u8]) -> Answer
     ensures tables { (cells : List ℕ) → held_of cells b.new store.new ≡ completed (held_of cells b.old store.old) packet.now }
     ensures answer { (cells : List ℕ) → answer_of result ≡ plain (complete_refusal (bridge_of cells b.old) (length store.old) packet.now) }
