@@ -70,13 +70,13 @@ impl Bridge {
     pub fn word(self, word: u32) -> u32
         ensures { result ≡ local_read (registers_of (view_of self)) word }
     {
-        ecam::registers::local_read(self.state.core.registers, &self.cells, word)
+        self.state.core.registers.local_read(&self.cells, word)
     }
 
     // The interrupt line.
     pub fn line(self) -> bool
         ensures { result ≡ line_of (view_of self) }
     {
-        ecam::registers::line(self.state.core.registers)
+        self.state.core.registers.line()
     }
 }

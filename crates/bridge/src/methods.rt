@@ -2,7 +2,7 @@
 ghost use Rattle.std.specs.Prelude.{◌≡◌, length};
 ghost use Rattle.refusals.specs.Refusals.{number_in};
 ghost use Rattle.machine.specs.Memory.{read_step, read_area, write_step, write_area};
-ghost use Rattle.machine.specs.Config.{access_of, config_step, config_area};
+ghost use Rattle.machine.specs.Config.{config_step, config_area};
 ghost use Rattle.machine.specs.Completions.{held, completed, complete_step};
 ghost use Rattle.machine.specs.Ticks.{ticked, tick_step, linked, link_step};
 ghost use Rattle.machine.specs.Messages.{message_step};
@@ -11,6 +11,7 @@ ghost use Rattle.bridge.specs.View.{view_of, step_of};
 
 use crate::{Answered, Bridge, Refusal};
 use burst::Burst;
+use ecam::Access;
 use events::complete::complete_in;
 use events::config::config_in;
 use events::link::link_in;
@@ -38,27 +39,12 @@ impl Bridge {
         Answered { bridge, answer }
     }
 
-    // A configuration access at an offset; its answer is taken from slot 8.
-    pub fn config(
-        self,
-        offset: u64,
-        write: bool,
-        strobes: u32,
-        word: u32,
-        area: &mut [u8],
-    ) -> Answered
-        ensures { (step_of result ≡ config_step (view_of self) (access_of offset write strobes word) (length area.old)) × (area.new ≡ config_area (view_of self) (access_of offset write strobes word) area.old) }
+    // A configuration access; its answer is taken from slot 8.
+    pub fn config(self, a: Access, area: &mut [u8]) -> Answered
+        ensures { (step_of result ≡ config_step (view_of self) a (length area.old)) × (area.new ≡ config_area (view_of self) a area.old) }
     {
         let mut bridge = self;
-        let answer = config_in(
-            &mut bridge.state,
-            &self.cells,
-            offset,
-            write,
-            strobes,
-            word,
-            area,
-        );
+        let answer = config_in(&mut bridge.state, &self.cells, a, area);
         Answered { bridge, answer }
     }
 

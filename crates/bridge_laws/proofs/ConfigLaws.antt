@@ -125,7 +125,7 @@ opens b a h =
 
 pub routed_opens : RoutedOpens
 routed_opens b a room e g =
-    let s = routed_step b a (route_of b a) b.settings.bits b.settings.requester refl refl refl g room (config_refusal b a room) refl e in
+    let s = routed_step b a room e g in
     subst (Opens a b) (sym (ap (λ (r : Answered). r.bridge) s))
     (opens b a ((passed b.core (route_of b a) room e).tag g))
 

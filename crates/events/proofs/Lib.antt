@@ -1,1 +1,3 @@
 pub mod Quiet
+pub mod Taking
+pub mod Completing

@@ -13,9 +13,9 @@ use crate::pieces::memory_in;
 use moves::tagged::{free, shut};
 use parts::{Accepted, Answer, CONFIG_WRITE, SLOTS, STORE_SIZE, State, TAGS};
 use refusals::Refusal;
-use tlp::completion::{Completion, CompletionRead};
+use tlp::completion::Completion;
 use tlp::packet::completion_of;
-use verdict::{Verdict, config_verdict, is_open, is_unexpected, memory_verdict};
+use verdict::{Verdict, config_verdict, is_open, memory_verdict};
 
 // The configuration access is finished, and its tag is free.
 #[tactic(auto, unfolding(machine::specs::Completions::config_completed))]
@@ -29,13 +29,13 @@ fn finish_config(b: &mut State, tag: u32, payload: &[u8], v: Verdict)
 }
 
 // The verdict on a completion, by the request of its tag; the requester ID must be ours, and the tag open.
-#[tactic(auto, unfolding(machine::specs::Completions::verdict_of))]
+#[tactic(auto, using(machine::proofs::Judging::verdict_fits, machine::proofs::Tables::place_cell, machine::proofs::Tables::owner_cell, machine::proofs::Tables::kind_cell), unfolding(machine::specs::Completions::verdict_of))]
 fn verdict_in(b: &State, h: Completion) -> Verdict
     ensures verdict { (cells : List ℕ) → result ≡ verdict_of (bridge_of cells b.now) h }
     ensures expects { (cells : List ℕ) → is_unexpected result ≡ false → Expects (bridge_of cells b.now) h result }
 {
     let t = h.tag as usize;
-    if (h.requester != b.settings.requester) | (TAGS <= t) {
+    if h.requester != b.settings.requester || TAGS <= t {
         return Verdict::Unexpected;
     }
     let row = b.tags[t];
@@ -56,7 +56,7 @@ fn header_in(b: &mut State, store: &mut [u8], h: Completion, payload: &[u8]) -> 
     ensures answer { (cells : List ℕ) → answer_of result ≡ plain (cond (is_unexpected (verdict_of (bridge_of cells b.old) h)) not_expected 0) }
 {
     let v = verdict_in(b, h);
-    if is_unexpected(v) {
+    if v.is_unexpected() {
         return b.core.refuse(Refusal::NotExpected);
     }
     let k = b.tags[h.tag as usize].owner as usize;
@@ -69,7 +69,7 @@ fn header_in(b: &mut State, store: &mut [u8], h: Completion, payload: &[u8]) -> 
 }
 
 // A completion of any bytes.
-#[tactic(auto, unfolding(machine::specs::Completions::completed, machine::specs::Completions::complete_refusal))]
+#[tactic(auto, using(crate::proofs::Completing::header_valid, crate::proofs::Completing::header_length, crate::proofs::Completing::behind_header, crate::proofs::Completing::one_test), unfolding(machine::specs::Completions::completed, machine::specs::Completions::complete_refusal))]
 pub fn complete_in(b: &mut State, store: &mut [u8], packet: &[u8]) -> Answer
     ensures tables { (cells : List ℕ) → held_of cells b.new store.new ≡ completed (held_of cells b.old store.old) packet.now }
     ensures answer { (cells : List ℕ) → answer_of result ≡ plain (complete_refusal (bridge_of cells b.old) (length store.old) packet.now) }
@@ -78,7 +78,7 @@ pub fn complete_in(b: &mut State, store: &mut [u8], packet: &[u8]) -> Answer
         return b.core.refuse(Refusal::TooShort);
     }
     match completion_of(packet) {
-        CompletionRead::Malformed => b.core.refuse(Refusal::Malformed),
-        CompletionRead::Header(h) => header_in(b, store, h, &packet[12..]),
+        Ok(h) => header_in(b, store, h, &packet[12..]),
+        Err(why) => b.core.refuse(why),
     }
 }

@@ -22,12 +22,14 @@ pub fn check_take(b: &State, store: &[u8], slot: u32) -> Result<(), Refusal>
 pub fn look_in<'a>(b: &State, store: &'a [u8], slot: u32) -> &'a [u8]
     ensures { (cells : List ℕ) → result.now ≡ looked (bridge_of cells b.now) store.now slot }
 {
-    if check_take(b, store, slot).is_err() | (CONFIG_SLOT <= slot) {
-        return &store[..0];
+    match check_take(b, store, slot) {
+        Ok(()) if slot < CONFIG_SLOT => {
+            let k = slot as usize;
+            let at = SLOT_SIZE * k;
+            &store[at..at + within_slot(b.slots[k].size)]
+        }
+        _ => &store[..0],
     }
-    let k = slot as usize;
-    let at = SLOT_SIZE * k;
-    &store[at..at + within_slot(b.slots[k].size)]
 }
 
 // A finished slot is free, and its response, data word and figures are handed out.
