@@ -4,7 +4,7 @@ use lib.ListN.{length-drop}
 use lib.Seq.{take_all}
 use Rattle.refusals.specs.Table.{not_expected}
 use Rattle.tlp.specs.declared.completion.Completion.{Completion}
-use Rattle.tlp.specs.declared.completion.CompletionRead.TheVariants.{Header}
+use Rattle.std.specs.Prelude.{Ok}
 use Rattle.tlp.specs.Completion.{valid_completion}
 use Rattle.machine.specs.State.{core_in, refusal_change}
 use Rattle.machine.specs.Completions.{Held, held, completion_of}
@@ -12,11 +12,11 @@ use Rattle.machine.specs.Code.Expected.{Whole}
 use Rattle.machine.proofs.Judging.{read_whole}
 
 -- a header that was read is valid, and its payload stands behind it
-pub header_valid : (s : List ℕ) (c : Completion) → completion_of s ≡ Header c → valid_completion c ≡ true
-header_valid s c e = let w : Whole s (Header c) = rw e at (read_whole s) in w.0
+pub header_valid : (s : List ℕ) (c : Completion) → completion_of s ≡ Ok c → valid_completion c ≡ true
+header_valid s c e = let w : Whole s (Ok c) = rw e at (read_whole s) in w.0
 
-pub header_length : (s : List ℕ) (c : Completion) → completion_of s ≡ Header c → length s ≡ 12 + 4 * c.length
-header_length s c e = let w : Whole s (Header c) = rw e at (read_whole s) in w.1
+pub header_length : (s : List ℕ) (c : Completion) → completion_of s ≡ Ok c → length s ≡ 12 + 4 * c.length
+header_length s c e = let w : Whole s (Ok c) = rw e at (read_whole s) in w.1
 
 pub behind_header : (s : List ℕ) → take (length s - 12) (drop 12 s) ≡ drop 12 s
 behind_header s = take_all (length s - 12) (drop 12 s) (simp length-drop (omega arith))

@@ -79,6 +79,6 @@ pub fn complete_in(b: &mut State, store: &mut [u8], packet: &[u8]) -> Answer
     }
     match completion_of(packet) {
         Ok(h) => header_in(b, store, h, &packet[12..]),
-        Err(why) => b.core.refuse(why),
+        Err(_) => b.core.refuse(Refusal::Malformed),
     }
 }

@@ -14,12 +14,7 @@ use refusals::Response;
 
 // A configuration access. A local one may read the queued messages.
 #[tactic(auto, unfolding(machine::specs::Config::config_step, machine::specs::Config::config_area, machine::specs::Config::routed_bridge, machine::specs::State::refused))]
-pub fn config_in(
-    b: &mut State,
-    cells: &[u32; DEPTH],
-    a: Access,
-    area: &mut [u8],
-) -> Answer
+pub fn config_in(b: &mut State, cells: &[u32; DEPTH], a: Access, area: &mut [u8]) -> Answer
     ensures step { answered (bridge_of cells.now b.new) (answer_of result) ≡ config_step (bridge_of cells.now b.old) a (length area.old) }
     ensures area { area.new ≡ config_area (bridge_of cells.now b.old) a area.old }
 {
