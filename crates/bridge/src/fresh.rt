@@ -5,12 +5,13 @@ ghost use Rattle.ecam.specs.Registers.{local_read};
 ghost use Rattle.ecam.specs.Code.Struct.{registers_from};
 ghost use Rattle.bridge.specs.View.{Whole, view_of, step_of};
 
-use crate::{Accepted, Answered, Bridge, Core, Refusal};
+use crate::{Accepted, Answered, Bridge, Core};
 use address::Settings;
 use ecam::registers::Registers;
 use messages::queue::DEPTH;
 use parts::{SLOTS, SlotRow, State, TAGS, TagRow};
 
+#[tactic(auto, unfolding(machine::specs::State::fresh_bridge))]
 fn fresh_bridge(settings: Settings) -> Bridge
     ensures { view_of result ≡ fresh_bridge settings }
 {
@@ -43,18 +44,19 @@ fn fresh_bridge(settings: Settings) -> Bridge
 
 impl Bridge {
     // The fresh bridge with these settings; where one of them breaks its rule, that of the worked examples, and 1.
+    #[tactic(auto, unfolding(machine::specs::State::new_bridge, machine::specs::State::refused, machine::specs::State::refusal_change))]
     pub fn new(s: Settings) -> Answered
         ensures { step_of result ≡ new_bridge s }
     {
-        if address::settings_number(s) != 0 {
-            return Answered {
+        match s.check() {
+            Ok(()) => Answered {
+                bridge: fresh_bridge(s),
+                answer: Ok(Accepted::plain()),
+            },
+            Err(why) => Answered {
                 bridge: fresh_bridge(address::example_settings()),
-                answer: Err(Refusal::Setting),
-            };
-        }
-        Answered {
-            bridge: fresh_bridge(s),
-            answer: Ok(Accepted::plain()),
+                answer: Err(why),
+            },
         }
     }
 

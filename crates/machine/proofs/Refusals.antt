@@ -12,6 +12,8 @@ use Rattle.refusals.specs.declared.Refusal.TheVariants.{Setting, NoWindow, Wrong
 use Rattle.refusals.specs.Refusals.{number_of}
 use Rattle.tags.specs.Tags.{available}
 use Rattle.address.specs.Windows.{found_number}
+use Rattle.address.specs.declared.Settings.{Settings}
+use Rattle.address.specs.Settings.{settings_right, settings_number}
 use Rattle.burst.specs.declared.Burst.{Burst}
 use Rattle.burst.specs.Bursts.{burst_right, burst_number, length_of, data_number}
 use Rattle.machine.specs.Bridge.{Bridge}
@@ -113,6 +115,10 @@ wrong_burst_is q r e = zero_or (burst_right q) 3 (number_of r) (not_zero r) e
 pub wrong_data_is : (q : Burst) (len : ℕ) (r : Refusal) → number_of r ≡ data_number q len → data_number q len ≡ 15
 unfolding data_number
 wrong_data_is q len r e = zero_or (eqb len (length_of q)) 15 (number_of r) (not_zero r) e
+
+pub wrong_setting_is : (s : Settings) (r : Refusal) → number_of r ≡ settings_number s → settings_number s ≡ 1
+unfolding settings_number
+wrong_setting_is s r e = zero_or (settings_right s) 1 (number_of r) (not_zero r) e
 
 -- accepted data has the burst's length
 pub data_length : (q : Burst) (len : ℕ) → data_number q len ≡ 0 → len ≡ length_of q
