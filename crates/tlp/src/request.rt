@@ -221,7 +221,7 @@ fn request_in(s: &[u8], target: Target) -> Request
 }
 
 // The request whose header the bytes are, all of them.
-#[tactic(auto, using(crate::proofs::Reading::read_short), unfolding(crate::specs::Request::read_request, crate::specs::Request::request_reserved))]
+#[tactic(auto, unfolding(crate::specs::Request::read_request, crate::specs::Request::request_reserved, crate::specs::Request::target_in, crate::specs::Request::format_of))]
 pub fn read_request(s: &[u8]) -> Result<Request, Refusal>
     ensures { result ≡ read_request s.now }
 {
