@@ -8,7 +8,7 @@ use lib.Dec.{ltb, eqb}
 use borrow.Author.Tests.{ltb-true, ltb-false, eqb-true}
 use Rattle.std.specs.Prelude.{Result, Ok, Err}
 use Rattle.refusals.specs.declared.Refusal.{Refusal}
-use Rattle.tlp.proofs.Short.{refused_malformed}
+use Rattle.tlp.proofs.Refused.{refused_malformed}
 use Rattle.tlp.specs.declared.completion.Completion.{Completion}
 use Rattle.refusals.specs.Table.{refused_by, completion_order}
 use Rattle.machine.specs.Bridge.{Bridge}

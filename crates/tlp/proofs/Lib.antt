@@ -3,6 +3,5 @@ pub mod Digits
 pub mod RequestTrip
 pub mod CompletionTrip
 pub mod Codec
-pub mod Reading
 pub mod Ranges
-pub mod Short
+pub mod Refused

@@ -17,10 +17,9 @@ use Rattle.tlp.specs.declared.request.Request.{Request}
 use Rattle.std.specs.Prelude.{Option, Some, None, Ok, Err}
 use Rattle.refusals.specs.declared.Refusal.TheVariants.{Malformed}
 use Rattle.tlp.specs.Bytes.{bytes, byte, number}
-use Rattle.tlp.specs.Request.{Format, Memory3, Memory4, Type0, Type1, Other, valid_config, valid_target, valid_request, format_type, config_bytes, target_bytes, request_bytes, format_of, config_in, target_in, request_in, request_reserved, read_with, read_request}
+use Rattle.tlp.specs.Request.{Format, Memory3, Memory4, Type0, Type1, Other, valid_config, valid_target, valid_request, format_type, config_bytes, target_bytes, request_bytes, format_of, config_in, target_in, request_in, request_reserved, accept_request, read_with, read_request}
 use Rattle.tlp.specs.Laws.{Bytes, Address, ValidRequest}
 use Rattle.tlp.proofs.Ranges.{ConfigRanges, config_ranges, RequestRanges, request_ranges}
-use Rattle.tlp.proofs.Reading.{read_at_lem}
 use Rattle.tlp.proofs.Digits.{number_bytes, bytes_number, number_lt}
 use Rattle.tlp.proofs.Codec.{no_path, cell, full_back, full_there}
 
@@ -108,6 +107,10 @@ module _ (r : Request) (g : RequestRanges r) where
       let l : (r.last * 16 + r.first) / 16 ≡ r.last = omega arith in
       let f : (r.last * 16 + r.first) % 16 ≡ r.first = omega arith in
       rw (write_back, n, q, l, f)
+
+read_at_lem : (s : List ℕ) (t : Target) → request_reserved s ≡ true → target_in (format_of (byte s 0 % 0x40)) s ≡ Some t → read_request s ≡ accept_request (request_in s t)
+unfolding read_request
+read_at_lem s t e f = rw (e, f)
 
 pub request_reads_back : (r : Request) → ValidRequest r → read_request (request_bytes r) ≡ Ok r
 unfolding request_bytes

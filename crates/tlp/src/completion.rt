@@ -75,6 +75,7 @@ impl Completion {
 }
 
 // Puts the header of c into the area, of at least 16 bytes; how many bytes it has.
+// Kept: a twin of write_request; a trait over both headers is longer than the two tests that they share.
 #[tactic(auto, unfolding(crate::specs::Bytes::write_header, crate::specs::Bytes::area_after))]
 pub fn write_completion(c: Completion, area: &mut [u8]) -> Result<usize, Refusal>
     ensures { (result ≡ write_completion c (length area.old)) × (area.new ≡ area_after_completion c area.old) }

@@ -18,7 +18,7 @@ pub fn with_payload(room: usize, h: Completion) -> Result<Completion, Refusal>
 }
 
 // The header of a packet, whose payload has its length.
-#[tactic(auto, using(crate::proofs::Short::cut_short), unfolding(crate::specs::Packet::completion_of))]
+#[tactic(auto, unfolding(crate::specs::Packet::completion_of, crate::specs::Completion::read_completion, crate::specs::Completion::completion_reserved))]
 pub fn completion_of(packet: &[u8]) -> Result<Completion, Refusal>
     ensures { result ≡ completion_of packet.now }
 {

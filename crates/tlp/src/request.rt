@@ -41,6 +41,7 @@ pub struct Request {
 }
 
 impl ConfigAddress {
+    // Kept: rows of tests are joined by `&`, so that they have no branches.
     fn is_valid(self) -> bool
         ensures { result ≡ valid_config self }
     {
@@ -151,6 +152,7 @@ impl Request {
 }
 
 // Puts the header of q into the area, of at least 16 bytes; how many bytes it has.
+// Kept: a function and no method, as the three other header calls: users call it by this name.
 #[tactic(auto, unfolding(crate::specs::Bytes::write_header, crate::specs::Bytes::area_after))]
 pub fn write_request(q: Request, area: &mut [u8]) -> Result<usize, Refusal>
     ensures { (result ≡ write_request q (length area.old)) × (area.new ≡ area_after_request q area.old) }
@@ -221,7 +223,7 @@ fn request_in(s: &[u8], target: Target) -> Request
 }
 
 // The request whose header the bytes are, all of them.
-#[tactic(auto, using(crate::proofs::Reading::read_short), unfolding(crate::specs::Request::read_request, crate::specs::Request::request_reserved))]
+#[tactic(auto, unfolding(crate::specs::Request::read_request, crate::specs::Request::request_reserved, crate::specs::Request::target_in, crate::specs::Request::format_of))]
 pub fn read_request(s: &[u8]) -> Result<Request, Refusal>
     ensures { result ≡ read_request s.now }
 {

@@ -11,7 +11,7 @@ use lib.Dec.{eqb}
 use Rattle.std.specs.Prelude.{Result, Ok, Err}
 use Rattle.refusals.specs.declared.Refusal.{Refusal}
 use Rattle.refusals.specs.declared.Refusal.TheVariants.{Malformed}
-use Rattle.tlp.proofs.Short.{refused_malformed}
+use Rattle.tlp.proofs.Refused.{refused_malformed}
 use Rattle.tlp.specs.declared.completion.Completion.{Completion}
 use Rattle.address.specs.declared.Settings.{Settings}
 use Rattle.parts.specs.Cores.{Core}

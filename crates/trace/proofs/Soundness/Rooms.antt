@@ -6,7 +6,7 @@ use native.Mathlib.Omega.{arith}
 use lib.ListN.{length}
 use Rattle.std.specs.Prelude.{Result, Ok, Err}
 use Rattle.refusals.specs.declared.Refusal.{Refusal}
-use Rattle.tlp.proofs.Short.{refused_malformed}
+use Rattle.tlp.proofs.Refused.{refused_malformed}
 use Rattle.tlp.specs.declared.completion.Completion.{Completion}
 use Rattle.machine.specs.State.{Slot, slot_at}
 use Rattle.machine.specs.Completions.{store_size, Held, held, completion_of, completed}

@@ -1,30 +1,16 @@
--- A packet that is too short has no header, and what has none is malformed.
+-- A completion that is not read is malformed: callers may pass the reader's refusal on.
 use mathlib.Core.Path.{◌≡◌, refl, sym, ◌∙◌}
 use mathlib.Core.Bool.{Bool, true, false, cond}
 use mathlib.Core.List.{List}
-use Prim.Native.Nat.{ℕ, ◌+◌, ◌*◌, ◌<◌}
-use native.Mathlib.Omega.{arith}
-use borrow.Author.Tests.{ne_eqb}
+use Prim.Native.Nat.{ℕ, ◌+◌, ◌*◌}
 use lib.Dec.{eqb}
 use lib.ListN.{length, take}
-use lib.Seq.{take_all}
 use Rattle.std.specs.Prelude.{Result, Ok, Err}
 use Rattle.refusals.specs.declared.Refusal.{Refusal}
 use Rattle.refusals.specs.declared.Refusal.TheVariants.{Malformed}
 use Rattle.tlp.specs.declared.completion.Completion.{Completion}
 use Rattle.tlp.specs.Completion.{valid_completion, completion_in, completion_reserved, read_completion}
 use Rattle.tlp.specs.Packet.{with_payload, completion_of}
-
--- a reader that wants 12 bytes finds no header in fewer
-pub read_short : (s : List ℕ) → length s < 12 → read_completion s ≡ Err Malformed
-unfolding read_completion completion_reserved
-read_short s h = rw (ne_eqb (length s) 12 (λ e. omega arith))
-
--- and so the first 12 bytes of a packet that has fewer
-pub cut_short : (s : List ℕ) → length s < 12 → read_completion (take 12 s) ≡ Err Malformed
-cut_short s h = read_short (take 12 s) (rw (take_all 12 s (omega arith)) h)
-
--- what a reader of completions refuses is malformed
 
 read_refused : (a b : Bool) (c : Completion) (r : Refusal) → cond a (cond b (Ok c) (Err Malformed)) (Err Malformed) ≡ Err r → r ≡ Malformed
 read_refused true true c r e = cc
