@@ -26,7 +26,8 @@ pub fn look_in<'a>(b: &State, store: &'a [u8], slot: u32) -> &'a [u8]
         Ok(()) if slot < CONFIG_SLOT => {
             let k = slot as usize;
             let at = SLOT_SIZE * k;
-            &store[at..at + within_slot(b.slots[k].size)]
+            let n = within_slot(b.slots[k].size);
+            &store[at..at + n]
         }
         _ => &store[..0],
     }

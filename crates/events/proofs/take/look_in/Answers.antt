@@ -7,12 +7,12 @@ use Rattle.events.proofs.take.look_in.Goals.{in_default-via-in-Ok+else-slot-lt-C
 use Rattle.events.proofs.take.look_in.Goals as goal
 
 pub slice_bounds-result-end : goal.slice_bounds-result-end
-slice_bounds-result-end c = omega (arith, long_store _ _ (sym (c.in-Ok.ensures [])), c.within_slot.ensures.1, c.if-slot-lt-CONFIG_SLOT.true)
+slice_bounds-result-end c = omega (arith, long_store _ _ (sym (c.in-Ok.ensures [])), c.within_slot-n.ensures.1, c.if-slot-lt-CONFIG_SLOT.true)
 
 pub returns-in-Ok : goal.returns-in-Ok
 unfolding looked
 returns-in-Ok c = λ cells.
-    rw (← c.in-Ok.ensures cells, lt-ltb _ _ c.if-slot-lt-CONFIG_SLOT.true, size_cell c.args.b.now.slots c.args.slot, ← c.within_slot.ensures.0, add-sub_cancel_left)
+    rw (← c.in-Ok.ensures cells, lt-ltb _ _ c.if-slot-lt-CONFIG_SLOT.true, size_cell c.args.b.now.slots c.args.slot, ← c.within_slot-n.ensures.0, add-sub_cancel_left)
 
 pub returns-in_default : goal.returns-in_default
 unfolding looked
