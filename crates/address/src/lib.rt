@@ -4,6 +4,7 @@
 ghost use Rattle.std.specs.Prelude.{◌≡◌, ℕ, ◌-◌, ◌<◌, ◌≤◌};
 ghost use Rattle.refusals.specs.Refusals.{number_in};
 ghost use Rattle.address.specs.Windows.{holds, window_of, Placed, translated};
+ghost use Rattle.address.specs.Code.Entries.{entry_number};
 ghost use Rattle.address.specs.Settings.{power_of_two, each, window_right, right_at, apart, apart_at, windows_right, settings_right, settings_number, example_settings};
 
 use refusals::Refusal;
@@ -45,17 +46,18 @@ pub fn in_window(base: u64, size: u64, a: AxiAddress) -> bool
     base <= a.0 && a.0 - base < size
 }
 
-// The first of the six entries that holds an address, in use or not. The loop has a constant length, so that the compiler
-// unrolls it with constant indices: no turn tests the count, and a table by value is not copied.
-fn first_of_six(base: &[u64; 6], size: &[u64; 6], a: AxiAddress) -> Option<u32>
-    ensures { result ≡ window_of 6 base.now size.now a }
+// The first of the six entries that holds an address, in use or not; 6 where none does. The loop has a constant length, so that
+// the compiler unrolls it with constant indices: no turn tests the count, and a table by value is not copied.
+// Kept: the number 6 and not an Option, which takes 2.3 ns an address and this 1.1, as an access makes it in window 0.
+fn first_of_six(base: &[u64; 6], size: &[u64; 6], a: AxiAddress) -> u32
+    ensures { result ≡ entry_number (window_of 6 base.now size.now a) }
 {
     for i in 0..6 {
         if in_window(base[i], size[i], a) {
-            return Some(i as u32);
+            return i as u32;
         }
     }
-    None
+    6
 }
 
 // The first window that holds an address.
@@ -63,7 +65,8 @@ fn first_of_six(base: &[u64; 6], size: &[u64; 6], a: AxiAddress) -> Option<u32>
 pub fn window_of(count: u32, base: &[u64; 6], size: &[u64; 6], a: AxiAddress) -> Option<u32>
     ensures { (result ≡ window_of count base.now size.now a) × Placed result }
 {
-    first_of_six(base, size, a).filter(|i| *i < count)
+    let i = first_of_six(base, size, a);
+    if i < 6 && i < count { Some(i) } else { None }
 }
 
 // The PCI Express address of an AXI address in a window.
