@@ -49,7 +49,7 @@ pub fn in_window(base: u64, size: u64, a: AxiAddress) -> bool
 
 // The first of the six entries that holds an address, in use or not; 6 where none does. The loop has a constant length, so that
 // the compiler unrolls it with constant indices: no turn tests the count, and a table by value is not copied.
-// Kept: the number 6 and not an Option, which takes 2.3 ns an address and this 1.1, as an access makes it in window 0.
+// Kept: the number 6 and no Option, with which an access in a loop takes 2.3 ns an address in window 0 and 3.5 in all; so 1.1 and 2.8.
 fn first_of_six(base: &[u64; 6], size: &[u64; 6], a: AxiAddress) -> u32
     ensures { result ≡ entry_number (window_of 6 base.now size.now a) }
 {
