@@ -1,13 +1,12 @@
 -- One turn of each walk, and tests that come to the same.
-use Rattle.std.proofs.Common.{◌≡◌, ◌≢◌, ℕ, zero, suc, ◌+◌, ◌-◌, ◌*◌, ◌%◌, ◌^◌, ◌<◌, ◌≤◌, Bool, true, false, ◌&&◌, ◌||◌, eqb, leb, Some, None, List, get_or, sym, refl, ap, ◌∙◌, one-mul, add-one, arith, lit<, pow_pos, shl_exact, eq-eqb, ne_eqb, eqb-true, le-leb, leb-true, le-ltb}
+use Rattle.std.proofs.Common.{◌≡◌, ◌≢◌, ℕ, zero, suc, ◌+◌, ◌-◌, ◌*◌, ◌%◌, ◌^◌, ◌<◌, ◌≤◌, Bool, true, false, ◌&&◌, ◌||◌, eqb, leb, Some, None, List, get_or, sym, refl, ap, ◌∙◌, one-mul, add-one, arith, lit<, pow_pos, shl_exact, eq-eqb, ne_eqb, eqb-true, le-leb, leb-true}
 use borrow.Author.Tests.{lt-leb}
 use mathlib.Core.Bool.{false≢true}
 use native.Mathlib.Decide.{ℕ_discrete}
 use Rattle.address.specs.declared.AxiAddress.{AxiAddress}
 use Rattle.address.specs.Windows.{holds, first_from}
 use Rattle.address.specs.declared.Windows.{Windows}
-use Rattle.address.specs.declared.Settings.{Settings}
-use Rattle.address.specs.Settings.{power_among, each_from, windows_right, settings_right, settings_number}
+use Rattle.address.specs.Settings.{power_among, each_from, windows_right}
 
 -- two tests, each of which holds where the other does
 pub same_test : (x y : Bool) → (x ≡ true → y ≡ true) → (y ≡ true → x ≡ true) → x ≡ y

@@ -4,6 +4,7 @@
 ghost use Rattle.std.specs.Prelude.{◌≡◌, ℕ, ◌-◌, ◌<◌, ◌≤◌};
 ghost use Rattle.refusals.specs.Refusals.{number_in};
 ghost use Rattle.address.specs.Windows.{holds, window_of, Placed, translated};
+ghost use Rattle.address.specs.Code.Entries.{entry_number};
 ghost use Rattle.address.specs.Settings.{power_of_two, each, window_right, right_at, apart, apart_at, windows_right, settings_right, settings_number, example_settings};
 
 use refusals::Refusal;
@@ -17,7 +18,8 @@ pub struct AxiAddress(pub u64);
 pub struct PcieAddress(pub u64);
 
 // Up to six windows; entries past the count are ignored.
-// Kept: three columns beside a count, a fixed shape: window_list walks a slice of window structs above it, and C lends these columns.
+// Kept: three columns beside a count, a fixed shape: a walk over a slice of window structs stands above it (window_list), and C
+// lends these columns (window_bench_c).
 #[derive(Clone, Copy, Debug, PartialEq, Eq)]
 pub struct Windows {
     pub count: u32,
@@ -45,17 +47,18 @@ pub fn in_window(base: u64, size: u64, a: AxiAddress) -> bool
     base <= a.0 && a.0 - base < size
 }
 
-// The first of the six entries that holds an address, in use or not. The loop has a constant length, so that the compiler
-// unrolls it with constant indices: no turn tests the count, and a table by value is not copied.
-fn first_of_six(base: &[u64; 6], size: &[u64; 6], a: AxiAddress) -> Option<u32>
-    ensures { result ≡ window_of 6 base.now size.now a }
+// The first of the six entries that holds an address, in use or not; 6 where none does. The loop has a constant length, so that
+// the compiler unrolls it with constant indices: no turn tests the count, and a table by value is not copied.
+// Kept: the number 6 and no Option, with which an access in a loop takes 2.3 ns an address in window 0 and 3.5 in all; so 1.1 and 2.8.
+fn first_of_six(base: &[u64; 6], size: &[u64; 6], a: AxiAddress) -> u32
+    ensures { result ≡ entry_number (window_of 6 base.now size.now a) }
 {
     for i in 0..6 {
         if in_window(base[i], size[i], a) {
-            return Some(i as u32);
+            return i as u32;
         }
     }
-    None
+    6
 }
 
 // The first window that holds an address.
@@ -63,7 +66,8 @@ fn first_of_six(base: &[u64; 6], size: &[u64; 6], a: AxiAddress) -> Option<u32>
 pub fn window_of(count: u32, base: &[u64; 6], size: &[u64; 6], a: AxiAddress) -> Option<u32>
     ensures { (result ≡ window_of count base.now size.now a) × Placed result }
 {
-    first_of_six(base, size, a).filter(|i| *i < count)
+    let i = first_of_six(base, size, a);
+    if i < 6 && i < count { Some(i) } else { None }
 }
 
 // The PCI Express address of an AXI address in a window.
@@ -102,27 +106,6 @@ pub fn disjoint(base: u64, size: u64, other: u64, more: u64) -> bool
     }
 }
 
-fn each_right(n: usize, base: &[u64; 6], size: &[u64; 6], target: &[u64; 6]) -> bool
-    requires { n ≤ 6 }
-    ensures { result ≡ each n (right_at base.now size.now target.now) }
-{
-    (0..n).all(|i| window_right(base[i], size[i], target[i]))
-}
-
-fn apart_before(j: usize, base: &[u64; 6], size: &[u64; 6]) -> bool
-    requires { j < 6 }
-    ensures { result ≡ each j (apart_at base.now size.now j) }
-{
-    (0..j).all(|i| disjoint(base[i], size[i], base[j], size[j]))
-}
-
-fn all_apart(n: usize, base: &[u64; 6], size: &[u64; 6]) -> bool
-    requires { n ≤ 6 }
-    ensures { result ≡ each n (λ (j : ℕ). each j (apart_at base.now size.now j)) }
-{
-    (0..n).all(|j| apart_before(j, base, size))
-}
-
 impl Windows {
     // The first window that holds an address, as for columns that are lent.
     pub fn find_window(self, a: AxiAddress) -> Option<u32>
@@ -131,16 +114,34 @@ impl Windows {
         window_of(self.count, &self.base, &self.size, a)
     }
 
+    fn each_right(self) -> bool
+        requires { self.count ≤ 6 }
+        ensures { result ≡ each self.count (right_at self.base self.size self.target) }
+    {
+        (0..self.count as usize).all(|i| window_right(self.base[i], self.size[i], self.target[i]))
+    }
+
+    // Whether window j is disjoint from each before it.
+    fn apart_before(self, j: usize) -> bool
+        requires { j < 6 }
+        ensures { result ≡ each j (apart_at self.base self.size j) }
+    {
+        (0..j).all(|i| disjoint(self.base[i], self.size[i], self.base[j], self.size[j]))
+    }
+
+    fn all_apart(self) -> bool
+        requires { self.count ≤ 6 }
+        ensures { result ≡ each self.count (λ (j : ℕ). each j (apart_at self.base self.size j)) }
+    {
+        (0..self.count as usize).all(|j| self.apart_before(j))
+    }
+
     // Whether the windows keep their rules.
     #[tactic(auto, using(crate::proofs::Steps::seven_windows), unfolding(crate::specs::Settings::windows_right))]
     pub fn right(self) -> bool
         ensures { result ≡ windows_right self }
     {
-        if self.count < 1 || 6 < self.count {
-            return false;
-        }
-        let n = self.count as usize;
-        each_right(n, &self.base, &self.size, &self.target) && all_apart(n, &self.base, &self.size)
+        1 <= self.count && self.count <= 6 && self.each_right() && self.all_apart()
     }
 }
 

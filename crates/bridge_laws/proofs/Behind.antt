@@ -9,14 +9,13 @@ use native.Mathlib.Decide.{dec_lt}
 use borrow.Author.Tests.{leb-true, lt-ltb, le-leb, eq-eqb, ne_eqb}
 use lib.ListN.{get_or}
 use lib.Dec.{ltb, leb, eqb}
+use Rattle.std.specs.Prelude.{Option, Some, None}
 use Rattle.common.proofs.Tests.{and_right, and_left}
 use Rattle.common.proofs.Tests as tests
 use Rattle.tlp.specs.Request.{valid_enables, valid_target, valid_request}
 use Rattle.tlp.specs.Laws.{ValidRequest}
 use Rattle.address.specs.declared.Settings.{Settings}
 use Rattle.address.specs.declared.Windows.{Windows}
-use Rattle.address.specs.declared.Found.{Found}
-use Rattle.address.specs.declared.Found.TheVariants as found
 use Rattle.address.specs.Windows.{axi, window_of, found_number, holds, translated, holds_at}
 use Rattle.address.specs.Settings.{settings_right, settings_number, windows_right}
 use Rattle.address.specs.Laws.{Limit}
@@ -65,9 +64,9 @@ requester_right s e = let f = address.accepted s e in search (and_left, and_righ
 
 -- ---- the window
 
-pub is_at : (f : Found) → found_number f ≡ 0 → f ≡ found.At (index_of f)
-is_at (found.At i) e = refl
-is_at found.Nothing e = let z : ⊥ = omega arith in absurd z
+pub is_at : (f : Option ℕ) → found_number f ≡ 0 → f ≡ Some (index_of f)
+is_at (Some i) e = refl
+is_at None e = let z : ⊥ = omega arith in absurd z
 
 module _ (s : Settings) (q : Burst) (r : Routed s q) where
   abbrev w : Windows
@@ -81,7 +80,7 @@ module _ (s : Settings) (q : Burst) (r : Routed s q) where
 
   pub inside : (x : ℕ) → Covered q x → (i < w.count) × (holds_at w i (axi x) ≡ true)
   inside x c =
-      let e : window_of w.count w.base w.size (axi x) ≡ found.At i = burst_in_window q r.burst w right x c.0 c.1 ∙ is_at (window_for w q) r.window in
+      let e : window_of w.count w.base w.size (axi x) ≡ Some i = burst_in_window q r.burst w right x c.0 c.1 ∙ is_at (window_for w q) r.window in
       address.found_holds w (axi x) i e
 
   first_covered : Covered q q.start.0

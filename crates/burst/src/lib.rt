@@ -12,7 +12,7 @@ use address::AxiAddress;
 use refusals::Refusal;
 
 // A burst: its start, size code, number of beats and type.
-// Kept: the size code, the beats and the type are numbers, since any value may be given, and a wrong one is refused (burst_number).
+// Kept: numbers for size code, beats and type, since any may be given, and burst_number refuses the wrong ones with 3.
 #[derive(Clone, Copy, Debug, PartialEq, Eq)]
 pub struct Burst {
     pub start: AxiAddress,

@@ -38,7 +38,7 @@ impl Shift {
 }
 
 // One of six numbers, by cases, so that the compiler needs no copy of the table in memory.
-// Kept: an index in its place takes 3.6 ns an address and this 2.8 (docs/DECISIONS.md, "One of six by cases").
+// Kept: with an index an access in a loop takes 4.0 ns an address in window 0 and 5.5 in all, and so 1.1 and 2.8 (bench/run.sh).
 fn one_of(xs: [u64; 6], i: u32) -> u64
     requires { i < 6 }
     ensures { result ≡ get_or xs i 0 }

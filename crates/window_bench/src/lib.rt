@@ -109,7 +109,7 @@ fn table_of(count: u32, base: &[u64; 6], size: &[u64; 6], target: &[u64; 6]) -> 
     }
 }
 
-// ---- what is exported
+// ---- under the names that window_bench_c exports for C
 
 pub fn window_bench_choice(count: u32, base: &[u64; 6], size: &[u64; 6], a: u64) -> u64
     ensures { result ≡ entry_at count base.now size.now a }
