@@ -15,9 +15,7 @@ use Rattle.tags.proofs.Tags.{lowest_is, take_one_less}
 use Rattle.tlp.specs.Request.{valid_request, target_bytes, request_bytes, read_request}
 use Rattle.tlp.specs.Laws.{Address}
 use Rattle.tlp.proofs.Laws.{request_laws}
-use Rattle.ecam.specs.Route.{Route}
-use Rattle.ecam.specs.Route.{OutOfRange, Local, Type0, Type1, NotRouted, DeviceNotZero}
-use Rattle.ecam.specs.Route.{number_of}
+use Rattle.ecam.specs.Route.{Route, OutOfRange, Local, Type0, Type1, NotRouted, DeviceNotZero, number_of}
 use Rattle.ecam.specs.Request.{config_target, config_request, data_bytes}
 use Rattle.ecam.proofs.Requests.{config_request_valid}
 use Rattle.parts.specs.Cores.{Core}

@@ -9,9 +9,7 @@ use lib.Dec.{ltb, eqb}
 use Rattle.refusals.specs.Table.{config_order, refused_by}
 use Rattle.tags.specs.Tags.{available}
 use Rattle.tlp.specs.declared.request.Target.{Target}
-use Rattle.ecam.specs.Route.{Route}
-use Rattle.ecam.specs.Route.{OutOfRange, Local, Type0, Type1, NotRouted, DeviceNotZero}
-use Rattle.ecam.specs.Route.{number_of}
+use Rattle.ecam.specs.Route.{Route, OutOfRange, Local, Type0, Type1, NotRouted, DeviceNotZero, number_of}
 use Rattle.ecam.specs.Request.{config_target, config_request}
 use Rattle.ecam.proofs.Routes.{route_exactly}
 use Rattle.ecam.proofs.Named.{type0_names, type1_names, type0_reaches, type1_reaches}

@@ -6,8 +6,7 @@ use Rattle.tlp.specs.declared.request.Request.{Request}
 use Rattle.tlp.specs.Request.{request_bytes, read_request}
 use Rattle.address.specs.declared.Settings.{Settings}
 use Rattle.address.specs.Settings.{settings_number}
-use Rattle.ecam.specs.Route.{Route}
-use Rattle.ecam.specs.Route.{Local}
+use Rattle.ecam.specs.Route.{Route, Local}
 use Rattle.ecam.specs.Registers.{fresh, local_read, local_write}
 use Rattle.refusals.specs.declared.Response.{Response}
 use Rattle.refusals.specs.Responses.{code_of}

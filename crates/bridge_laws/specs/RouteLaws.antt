@@ -5,10 +5,8 @@ use Rattle.tags.specs.Tags.{available}
 use Rattle.tlp.specs.declared.request.ConfigAddress.{ConfigAddress}
 use Rattle.tlp.specs.declared.request.Target.{Target}
 use Rattle.tlp.specs.declared.request.Target.TheVariants.{Config0, Config1}
-use Rattle.ecam.specs.Route.{Route}
-use Rattle.ecam.specs.Route.{Type0, Type1}
+use Rattle.ecam.specs.Route.{Route, Type0, Type1, number_of}
 use Rattle.ecam.specs.Offset.{device, bus}
-use Rattle.ecam.specs.Route.{number_of}
 use Rattle.ecam.specs.RouteLaws.{Exactly, When, function_on, offset_of, OtherBus}
 use Rattle.machine.specs.Bridge.{Bridge}
 use Rattle.machine.specs.State.{tag_count, slot_free, registers_of}

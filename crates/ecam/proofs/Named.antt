@@ -8,9 +8,8 @@ use Rattle.tlp.specs.declared.request.ConfigAddress.{ConfigAddress}
 use Rattle.tlp.specs.declared.request.Target.TheVariants.{Config0, Config1}
 use Rattle.tlp.proofs.Ranges.{ConfigRanges, config_ranges}
 use Rattle.ecam.specs.Fields.{Registers}
-use Rattle.ecam.specs.Route.{Type0, Type1}
+use Rattle.ecam.specs.Route.{Type0, Type1, route}
 use Rattle.ecam.specs.Offset.{register, extended, function, device, bus}
-use Rattle.ecam.specs.Route.{route}
 use Rattle.ecam.specs.Request.{config_address, config_target}
 use Rattle.ecam.specs.RouteLaws.{BusInHeader, NotLocal, function_on, Type0Names, Type1Names, offset_of, OtherBus, Type0Reaches, Type1Reaches}
 use Rattle.ecam.proofs.Routes.{bus_fits, route_exactly}

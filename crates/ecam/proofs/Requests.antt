@@ -8,8 +8,7 @@ use lib.Dec.{lit<}
 use lib.Pow.{shr_mod, split}
 use borrow.Author.Tests.{lt-ltb}
 use Rattle.tlp.specs.Request.{valid_config, valid_target, valid_request}
-use Rattle.ecam.specs.Route.{Route}
-use Rattle.ecam.specs.Route.{OutOfRange, Local, Type0, Type1, NotRouted, DeviceNotZero}
+use Rattle.ecam.specs.Route.{Route, OutOfRange, Local, Type0, Type1, NotRouted, DeviceNotZero}
 use Rattle.ecam.specs.Registers.{byte}
 use Rattle.ecam.specs.Request.{config_address, config_target, config_request, data_bytes, data_word}
 use Rattle.ecam.specs.Laws.{ConfigRequestValid, DataReadsBack}

@@ -12,10 +12,8 @@ use borrow.Author.Tests.{leb-true, leb-false, eqb-true, eqb-false, le-leb, lt-le
 use Rattle.bits.proofs.Flags.{apart, and_left, and_right}
 use Rattle.common.specs.Tests.{first_of}
 use Rattle.ecam.specs.Fields.{Registers}
-use Rattle.ecam.specs.Route.{Route}
-use Rattle.ecam.specs.Route.{OutOfRange, Local, Type0, Type1, NotRouted, DeviceNotZero}
+use Rattle.ecam.specs.Route.{Route, OutOfRange, Local, Type0, Type1, NotRouted, DeviceNotZero, out_of_range, is_local, is_routed, is_type0, route, number_of}
 use Rattle.ecam.specs.Offset.{register, extended, function, device, bus, word}
-use Rattle.ecam.specs.Route.{out_of_range, is_local, is_routed, is_type0, route, number_of}
 use Rattle.ecam.specs.RouteLaws.{FieldsAreOffset, WordIsRegister, BusFits, NumberIsTable, NotLocal, Between, When, RouteExactly, PrimaryFirst, CrossedNotRouted}
 
 -- what is above bit j, cut at k bits further

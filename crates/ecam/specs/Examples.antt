@@ -2,10 +2,9 @@
 use Rattle.std.specs.Prelude.{◌≡◌, true, false, List, [], ◌∷◌, ◌++◌, ℕ, zero, suc, ◌/◌, ◌%◌}
 use Rattle.tlp.specs.Request.{request_bytes}
 use Rattle.ecam.specs.Fields.{Registers}
-use Rattle.ecam.specs.Route.{OutOfRange, Local, Type0, Type1, NotRouted, DeviceNotZero}
+use Rattle.ecam.specs.Route.{OutOfRange, Local, Type0, Type1, NotRouted, DeviceNotZero, route, number_of}
 use Rattle.ecam.specs.Offset.{bus, word}
 use Rattle.ecam.specs.Registers.{fresh, with_primary, with_secondary, with_subordinate, with_decode, with_link, local_read, local_write, messaged}
-use Rattle.ecam.specs.Route.{route, number_of}
 use Rattle.ecam.specs.Request.{config_request}
 
 -- registers with these bus numbers, all else as in a fresh bridge

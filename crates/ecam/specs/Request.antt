@@ -4,8 +4,7 @@ use Rattle.tlp.specs.declared.request.ConfigAddress.{ConfigAddress}
 use Rattle.tlp.specs.declared.request.Target.{Target}
 use Rattle.tlp.specs.declared.request.Target.TheVariants.{Config0, Config1}
 use Rattle.tlp.specs.declared.request.Request.{Request}
-use Rattle.ecam.specs.Route.{Route}
-use Rattle.ecam.specs.Route.{OutOfRange, Local, Type0, Type1, NotRouted, DeviceNotZero}
+use Rattle.ecam.specs.Route.{Route, OutOfRange, Local, Type0, Type1, NotRouted, DeviceNotZero}
 use Rattle.ecam.specs.Offset.{register, extended, function, device, bus}
 use Rattle.ecam.specs.Registers.{byte}
 

@@ -6,10 +6,8 @@ use Rattle.tlp.specs.declared.request.ConfigAddress.{ConfigAddress}
 use Rattle.tlp.specs.declared.request.Target.TheVariants.{Config0, Config1}
 use Rattle.tlp.specs.Request.{valid_config}
 use Rattle.ecam.specs.Fields.{Registers}
-use Rattle.ecam.specs.Route.{Route}
-use Rattle.ecam.specs.Route.{OutOfRange, Local, Type0, Type1, NotRouted, DeviceNotZero}
+use Rattle.ecam.specs.Route.{Route, OutOfRange, Local, Type0, Type1, NotRouted, DeviceNotZero, out_of_range, is_local, is_routed, device_not_zero, route, number_of}
 use Rattle.ecam.specs.Offset.{register, extended, function, device, bus, word}
-use Rattle.ecam.specs.Route.{out_of_range, is_local, is_routed, device_not_zero, route, number_of}
 use Rattle.ecam.specs.Request.{config_address, config_target}
 
 -- ---- offsets

@@ -7,6 +7,8 @@ pub mod registers;
 ghost use Rattle.std.specs.Prelude.{◌≡◌};
 ghost use Rattle.ecam.specs.Request.{data_bytes, data_word};
 
+pub use access::{Access, Route};
+
 // The data word of four bytes, low byte first.
 #[tactic(auto, unfolding(crate::specs::Request::data_word))]
 pub fn data_word(s: &[u8]) -> u32
@@ -25,5 +27,3 @@ pub fn data_bytes(w: u32) -> [u8; 4]
 {
     w.to_le_bytes()
 }
-
-pub use access::{Access, Route};

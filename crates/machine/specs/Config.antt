@@ -2,9 +2,7 @@
 -- `parts`, the request of a routed one in Routed, and passed on.
 use Rattle.std.specs.Prelude.{ℕ, List, [], cond, length, eqb}
 use Rattle.tags.specs.Tags.{lowest}
-use Rattle.ecam.specs.Route.{Route}
-use Rattle.ecam.specs.Route.{OutOfRange, Local, Type0, Type1, NotRouted, DeviceNotZero}
-use Rattle.ecam.specs.Route.{route}
+use Rattle.ecam.specs.Route.{Route, OutOfRange, Local, Type0, Type1, NotRouted, DeviceNotZero, route}
 use Rattle.refusals.specs.declared.Response.TheVariants.{Nothing}
 pub use Rattle.parts.specs.Pendings.{word_pending}
 use Rattle.machine.specs.State.{Bridge, Answered, tag_count, config_slot, with_config, open_config, figures_now, core_in, opened, accepted, answered, refused}

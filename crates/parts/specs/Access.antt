@@ -12,9 +12,7 @@ use Rattle.refusals.specs.Table.{refused_by, config_order}
 use Rattle.ecam.specs.Request.{data_word}
 use Rattle.tags.specs.Tags.{available}
 pub use Rattle.ecam.specs.declared.access.Access.{Access}
-use Rattle.ecam.specs.Route.{Route}
-use Rattle.ecam.specs.Route.{OutOfRange, Local, Type0, Type1, NotRouted, DeviceNotZero}
-use Rattle.ecam.specs.Route.{number_of}
+use Rattle.ecam.specs.Route.{Route, OutOfRange, Local, Type0, Type1, NotRouted, DeviceNotZero, number_of}
 use Rattle.ecam.specs.Registers.{local_read, local_write}
 
 -- what a configuration call is given

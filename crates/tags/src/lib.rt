@@ -1,4 +1,5 @@
 // The free tags, as the ones of a word.
+// Kept: functions of the bare word, whose trailing zeros pick a tag and whose count of ones decides a refusal.
 #![tactic(auto)]
 
 ghost use Rattle.std.specs.Prelude.{◌≡◌};

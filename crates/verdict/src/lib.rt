@@ -39,19 +39,17 @@ impl Cause {
     {
         match self {
             Cause::UnsupportedRequest => Response::Decerr,
-            Cause::RequestRetry => Response::Slverr,
-            Cause::CompleterAbort => Response::Slverr,
-            Cause::Poison => Response::Slverr,
-            Cause::Timeout => Response::Slverr,
+            Cause::RequestRetry | Cause::CompleterAbort | Cause::Poison | Cause::Timeout =>
+                Response::Slverr,
         }
     }
 
+    // CRS fails no memory read.
     pub fn decode_bit(self) -> u32
         ensures { result ≡ cause_bit self }
     {
         match self {
-            Cause::UnsupportedRequest => SLAVE_UNSUPPORTED_REQUEST,
-            Cause::RequestRetry => SLAVE_UNSUPPORTED_REQUEST,
+            Cause::UnsupportedRequest | Cause::RequestRetry => SLAVE_UNSUPPORTED_REQUEST,
             Cause::CompleterAbort => SLAVE_COMPLETER_ABORT,
             Cause::Poison => SLAVE_ERROR_POISON,
             Cause::Timeout => SLAVE_COMPLETION_TIMEOUT,

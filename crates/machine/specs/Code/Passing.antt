@@ -1,9 +1,7 @@
 -- A configuration access inside its call: the tests that an accepted one has passed, and the core of one that stays.
 use Rattle.std.specs.Prelude.{◌≡◌, true, ℕ, ◌≤◌, ◌<◌}
 use Rattle.tags.specs.Tags.{available}
-use Rattle.ecam.specs.Route.{Route}
-use Rattle.ecam.specs.Route.{OutOfRange, Local, Type0, Type1, NotRouted, DeviceNotZero}
-use Rattle.ecam.specs.Route.{number_of}
+use Rattle.ecam.specs.Route.{Route, OutOfRange, Local, Type0, Type1, NotRouted, DeviceNotZero, number_of}
 use Rattle.parts.specs.Cores.{Core}
 use Rattle.machine.specs.State.{tag_count}
 use Rattle.machine.specs.Memory.{area_size}

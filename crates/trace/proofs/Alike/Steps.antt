@@ -7,8 +7,7 @@ use lib.ListN.{length}
 use lib.Dec.{eqb}
 use borrow.Author.Tests.{eqb-true, le-ltb}
 use Rattle.address.specs.declared.Settings.{Settings}
-use Rattle.ecam.specs.Route.{Route}
-use Rattle.ecam.specs.Route.{OutOfRange, Local, Type0, Type1, NotRouted, DeviceNotZero}
+use Rattle.ecam.specs.Route.{Route, OutOfRange, Local, Type0, Type1, NotRouted, DeviceNotZero}
 use Rattle.machine.specs.State.{Answered, refusal_change, refused, answered}
 use Rattle.machine.specs.Memory.{read_step, write_bytes, write_step}
 use Rattle.machine.specs.Config.{Access, route_of, goes_out, local_core, config_refusal, config_bridge, config_step}

@@ -10,8 +10,7 @@ use borrow.Author.Tests.{eqb-true}
 use Rattle.address.specs.declared.Settings.{Settings}
 use Rattle.address.specs.Settings.{settings_number}
 use Rattle.verdict.specs.declared.Verdict.{Verdict}
-use Rattle.ecam.specs.Route.{Route}
-use Rattle.ecam.specs.Route.{OutOfRange, Local, Type0, Type1, NotRouted, DeviceNotZero}
+use Rattle.ecam.specs.Route.{Route, OutOfRange, Local, Type0, Type1, NotRouted, DeviceNotZero}
 use Rattle.ecam.specs.Registers.{local_write}
 use Rattle.ecam.specs.Laws.{Held as Kept}
 use Rattle.ecam.proofs.Keeps.{fresh_held, write_held, raise_held, message_held}

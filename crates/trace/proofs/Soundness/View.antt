@@ -10,8 +10,7 @@ use borrow.Author.Tests.{eqb-true, eqb-false, le-ltb}
 use Rattle.std.specs.Prelude.{Ok}
 use Rattle.tlp.specs.declared.completion.Completion.{Completion}
 use Rattle.ecam.specs.Registers.{Registers, messaged}
-use Rattle.ecam.specs.Route.{Route}
-use Rattle.ecam.specs.Route.{OutOfRange, Local, Type0, Type1, NotRouted, DeviceNotZero}
+use Rattle.ecam.specs.Route.{Route, OutOfRange, Local, Type0, Type1, NotRouted, DeviceNotZero, number_of}
 use Rattle.burst.specs.declared.Burst.{Burst}
 use Rattle.machine.specs.Bridge.{Bridge}
 use Rattle.verdict.specs.declared.Verdict.{Verdict}
@@ -26,7 +25,6 @@ use Rattle.machine.specs.Messages.{message_refusal, message_bridge, message_step
 use Rattle.machine.specs.Take.{take_refusal, slot_freed, release_step}
 use Rattle.parts.specs.Cores.{Core}
 use Rattle.parts.specs.Answers.{Answer}
-use Rattle.ecam.specs.Route.{number_of}
 use native.Mathlib.Omega.{arith}
 use Rattle.bridge_laws.specs.CompletionLaws.{Ours, Came, short, malformed, lost, memory, config}
 use Rattle.bridge_laws.proofs.Coming.{came_one_way}
