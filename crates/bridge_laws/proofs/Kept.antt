@@ -10,12 +10,12 @@ use Rattle.burst.specs.declared.Burst.{Burst}
 use Rattle.refusals.specs.Table.{Change}
 use Rattle.parts.specs.Cores.{Core}
 use Rattle.parts.specs.Answers.{changed}
-use Rattle.parts.proofs.Changes.{other_keeps}
 use Rattle.machine.specs.Bridge.{Bridge}
 use Rattle.machine.specs.State.{core_in, raise, free_slot, refusal_change, refusal, refused}
 use Rattle.machine.specs.Memory.{pieces_of, read_refusal, claimed, read_step, read_area, write_refusal, write_step, write_area}
 use Rattle.machine.proofs.Refusals.{read_ok}
 use Rattle.bridge_laws.specs.MemoryLaws.{AcceptedReadKeeps, RefusedRead, RefusedWrite}
+use Rattle.bridge_laws.proofs.Changes.{other_keeps}
 use Rattle.bridge_laws.proofs.Verbs.{claimed_alone}
 use Rattle.bridge_laws.proofs.Pieces.{opens_all, opens_slot}
 

@@ -1,4 +1,5 @@
 -- The rows of the state.
+pub mod Changes
 pub mod Rows
 pub mod Parts
 pub mod Cores
