@@ -2,7 +2,11 @@
 // parts. docs/CAPTURE.md has the format.
 #![tactic(auto)]
 
+ghost use Rattle.std.specs.Prelude.{◌≡◌};
+ghost use Rattle.records.specs.Stream.{is_reading};
+
 pub mod file;
+mod kind;
 pub mod reading;
 pub mod stream;
 pub mod writing;
@@ -26,7 +30,7 @@ pub enum Event {
 }
 
 // What is wrong with a record.
-#[derive(Clone, Copy)]
+#[derive(Clone, Copy, Debug, PartialEq, Eq)]
 pub enum Fault {
     Kind,
     Length,
@@ -54,23 +58,24 @@ pub enum Item {
     Message,
 }
 
-// What a writer answers: the refusal's number, and how many bytes it filled.
-#[derive(Clone, Copy)]
-pub struct Written {
-    pub number: u32,
-    pub length: usize,
-}
-
 // How far a reader has come.
-#[derive(Clone, Copy)]
+#[derive(Clone, Copy, Debug, PartialEq, Eq)]
 pub enum Phase {
     Reading,
     Ended,
     Bad(Fault),
 }
 
+impl Phase {
+    pub fn is_reading(self) -> bool
+        ensures { result ≡ is_reading self }
+    {
+        matches!(self, Phase::Reading)
+    }
+}
+
 // A reader that is fed a file in parts. The bytes of a record that is not yet whole stand in a buffer that its caller lends.
-#[derive(Clone, Copy)]
+#[derive(Clone, Copy, Debug, PartialEq, Eq)]
 pub struct Reader {
     // Where the present record begins in the file.
     pub at: u64,
