@@ -12,17 +12,19 @@ use lib.Seq.{take-length, take-append-add}
 use Rattle.common.proofs.Tests.{and_left, and_right}
 use Rattle.burst.specs.declared.Burst.{Burst}
 use Rattle.std.specs.Int.{from_bool}
+use Rattle.std.specs.Prelude.{Option, None, Some, is_some}
+use Rattle.std.specs.Bool.{then_some}
 use Rattle.tlp.specs.Bytes.{bytes, flag}
 use Rattle.tlp.proofs.Codec.{cell}
 use Rattle.records.specs.declared.kind.Kind.TheVariants as kind
 use Rattle.records.specs.declared.writing.Parts.{Parts}
 use Rattle.records.specs.Layout.{burst_fields, packed, record_bytes}
-use Rattle.records.specs.Events.{read, write, config_read, config_write, completion, link, tick, burst_values}
+use Rattle.records.specs.Events.{Captured, read, write, config_read, config_write, completion, link, tick, burst_values}
 use Rattle.records.specs.Events as events
-use Rattle.records.specs.Writing.{holds, record_of, end_record}
+use Rattle.records.specs.Writing.{event, end, fits_kind, holds, record_of, end_record}
 use Rattle.records.specs.Code.Kinds.{kind_number}
-use Rattle.records.specs.Code.Parts.{config_fields, burst_low, config_high, burst_parts, config_parts, byte_parts, plain_parts, end_parts, Small, front_bytes, laid_out}
-use Rattle.records.proofs.Holding.{burst_holds, BurstFits, burst_fits, holds_read, holds_write, holds_completion}
+use Rattle.records.specs.Code.Parts.{config_fields, burst_low, config_high, burst_parts, config_parts, byte_parts, plain_parts, end_parts, Small, Lays, front_bytes, laid_out}
+use Rattle.records.proofs.Holding.{burst_holds, BurstFits, burst_fits, holds_read, holds_write, holds_completion, end_count}
 
 -- ---- the fields
 
@@ -117,6 +119,17 @@ pub end_laid : (n high : ℕ) (d : List ℕ) → high ≡ n * 2 ^ 32 → Laid (e
 unfolding end_record record_bytes
 end_laid n high d e =
     (cell refl (cell refl (cell refl (cell (omega arith) (cell (omega arith) (cell (omega arith) (cell (omega arith) refl)))))), no_plain (end_parts high) d (lit≤ tt) refl)
+
+-- ---- by a test
+
+pub lays_if : (x : Option Parts) (b : Bool) (q : Parts) (e : Captured) (d : List ℕ) → is_some x ≡ b → ((r : Parts) → x ≡ Some r → r ≡ q)
+    → holds e ≡ b → (holds e ≡ true → Laid q d (record_of e)) → Lays x (event e) d
+lays_if None b q e d i s h l = h ∙ sym i
+lays_if (Some r) b q e d i s h l = let t : holds e ≡ true = h ∙ sym i in rw (s r refl) (t, l t)
+
+pub lays_end : (n : ℕ) (b : Bool) (d : List ℕ) → fits_kind 0 (n ∷ []) [] ≡ b → Lays (then_some b (end_parts (n * 2 ^ 32 % 2 ^ 64))) (end n) d
+lays_end n true d h = (h, end_laid n _ d (omega (arith, end_count n h)))
+lays_end n false d h = h
 
 -- a link's bit, as the code shifts it
 pub link_bit : (up : Bool) (x : ℕ) → x ≡ from_bool up → x * 128 % 256 ≡ flag up * 128

@@ -105,50 +105,23 @@ fn event_parts(e: Event, lent: &[u8]) -> Option<Parts>
     ensures { Lays result (event (captured_with e lent.now)) lent.now }
 {
     match e {
-        Event::Read(q) => {
-            if burst_fits(q) {
-                Some(burst_parts(Kind::Read, q, 0))
-            } else {
-                None
-            }
-        }
+        Event::Read(q) => burst_fits(q).then(|| burst_parts(Kind::Read, q, 0)),
         Event::Write(q) => {
-            if burst_fits(q) & (lent.len() <= MOST_BODY - BURST_BYTES) {
-                Some(burst_parts(Kind::Write, q, lent.len()))
-            } else {
-                None
-            }
+            let fits = burst_fits(q) & (lent.len() <= MOST_BODY - BURST_BYTES);
+            fits.then(|| burst_parts(Kind::Write, q, lent.len()))
         }
-        Event::ConfigRead(offset) => {
-            if offset < OFFSETS {
-                Some(config_parts(offset, false, 0, 0))
-            } else {
-                None
-            }
-        }
+        Event::ConfigRead(offset) => (offset < OFFSETS).then(|| config_parts(offset, false, 0, 0)),
         Event::ConfigWrite(offset, strobes, word) => {
-            if (offset < OFFSETS) & (strobes < 16) {
-                Some(config_parts(offset, true, strobes, word))
-            } else {
-                None
-            }
+            let fits = (offset < OFFSETS) & (strobes < 16);
+            fits.then(|| config_parts(offset, true, strobes, word))
         }
         Event::Completion => {
-            if Kind::Completion.fits(lent.len()) {
-                Some(plain_parts(Kind::Completion, lent.len()))
-            } else {
-                None
-            }
+            let fits = Kind::Completion.fits(lent.len());
+            fits.then(|| plain_parts(Kind::Completion, lent.len()))
         }
         Event::Link(up) => Some(byte_parts(Kind::Link, u8::from(up) << 7)),
         Event::Tick => Some(plain_parts(Kind::Tick, 0)),
-        Event::Take(slot) => {
-            if slot < 16 {
-                Some(byte_parts(Kind::Take, (slot << 4) as u8))
-            } else {
-                None
-            }
-        }
+        Event::Take(slot) => (slot < 16).then(|| byte_parts(Kind::Take, (slot << 4) as u8)),
     }
 }
 
@@ -158,19 +131,13 @@ fn item_parts(item: Item, lent: &[u8]) -> Option<Parts>
 {
     match item {
         Item::Event(e) => event_parts(e, lent),
-        Item::End(n) => {
-            if n < COUNTS {
-                Some(Parts {
-                    kind: Kind::End,
-                    high: n << 32,
-                    low: 0,
-                    length: 4,
-                    plain: 0,
-                })
-            } else {
-                None
-            }
-        }
+        Item::End(n) => (n < COUNTS).then_some(Parts {
+            kind: Kind::End,
+            high: n << 32,
+            low: 0,
+            length: 4,
+            plain: 0,
+        }),
         Item::Message => None,
     }
 }
