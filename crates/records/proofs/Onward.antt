@@ -62,17 +62,6 @@ no_event n r q input bytes buffer None l h g e = at_byte n r input (pushed q non
 no_event n r q input bytes buffer (Some (Here x)) l h g e = cc
 no_event n r q input bytes buffer (Some (Kept x size)) l h g e = cc
 
-pub an_event : (n : ℕ) (r q : Reader) (input bytes buffer : List ℕ) (g : code.Option Got) → n < length input → is_reading r.phase ≡ true
-    → is_some g ≡ true
-    → pushed q (event_of bytes buffer g) ≡ push r (get_or input n 0)
-    → came q (event_of bytes buffer g) (n + 1) ≡ later n (next_event r (drop n input))
-an_event n r q input bytes buffer None l h g e = cc
-an_event n r q input bytes buffer (Some (Here x)) l h g e =
-    sym (at_byte n r input (pushed q (some (captured x bytes))) l h e ∙ ap (λ (u : ℕ). came q (some (captured x bytes)) u) (add-zero (n + 1)))
-an_event n r q input bytes buffer (Some (Kept x size)) l h g e =
-    let c = captured x (take size buffer) in
-    sym (at_byte n r input (pushed q (some c)) l h e ∙ ap (λ (u : ℕ). came q (some c) u) (add-zero (n + 1)))
-
 pub halts : (n : ℕ) (r : Reader) (s : List ℕ) → next_event r s ≡ came r none 0 → came r none n ≡ later n (next_event r s)
 halts n r s e = sym (ap (later n) e ∙ ap (λ (u : ℕ). came r none u) (add-zero n))
 

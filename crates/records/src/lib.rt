@@ -12,6 +12,7 @@ pub mod stream;
 pub mod writing;
 
 use burst::Burst;
+use kind::MOST_BODY;
 
 // An event of a capture, as far as it is numbers. A write's data and a completion's bytes are lent beside it.
 #[derive(Clone, Copy)]
@@ -81,7 +82,7 @@ pub struct Reader {
     pub at: u64,
     // The events before it.
     pub events: u64,
-    // How many bytes of it have come.
+    // How many bytes of it have come. Kept: there is no heap, so the buffer is lent and its count goes with the reader, by value.
     pub have: usize,
     pub phase: Phase,
 }
@@ -90,7 +91,7 @@ pub struct Reader {
 pub const HEAD: usize = 3;
 
 // The longest record: a buffer for a reader has so many bytes.
-pub const LONGEST: usize = 4115;
+pub const LONGEST: usize = HEAD + MOST_BODY;
 
 // Where a write's data and a completion's bytes begin in their records.
 pub const DATA_AT: usize = 13;
