@@ -36,10 +36,6 @@ leb_shift k n m = go (dec_lt m n)
 abbrev pub burst_holds : Burst → Bool
 burst_holds q = leb 1 q.beats && fit burst_fields (burst_values q)
 
-pub burst_tested : (q : Burst) → 1 ≤ q.beats → q.start.0 < 2 ^ 64
-    → ltb q.size 8 && (ltb (q.beats - 1) 256 && ltb q.kind 4) ≡ burst_holds q
-burst_tested q h a = rw (le-leb 1 q.beats h, lt-ltb q.start.0 (2 ^ 64) a, and_true (ltb q.kind 4))
-
 pub record BurstFits (q : Burst) : Type 0 where
   pub some : 1 ≤ q.beats
   pub size : q.size < 8
@@ -135,10 +131,7 @@ holds_take slot = and_true (ltb slot 16 && true) ∙ and_true (ltb slot 16)
 pub holds_end : (n : ℕ) → fits_kind 0 (n ∷ []) [] ≡ ltb n (2 ^ 32)
 holds_end n = and_true (ltb n (2 ^ 32) && true) ∙ and_true (ltb n (2 ^ 32))
 
--- ---- what a write's and a take's tests tell
-
-pub write_burst : (q : Burst) (d : List ℕ) → holds (write q d) ≡ true → burst_holds q ≡ true
-write_burst q d h = and_left (burst_holds q) (leb (length d) 4102) (sym (holds_write q d) ∙ h)
+-- ---- what a take's and an end's tests tell
 
 pub take_slot : (slot : ℕ) → holds (take slot) ≡ true → slot < 16
 take_slot slot h = ltb-true slot 16 (sym (holds_take slot) ∙ h)

@@ -1,9 +1,7 @@
 pub mod Examples
-pub mod Values
-pub mod Whole
-pub mod Bodies
 pub mod Table
 pub mod Ways
+pub mod Judging
 pub mod Judged
 pub mod Known
 pub mod Pushing

@@ -52,8 +52,8 @@ pushes r bytes buffer b have f long p h e =
     ∙ ap (λ (x : ℕ). pushed_by (reader_of r buffer) (take x buffer ++ b ∷ []) (next r.events (take x buffer ++ b ∷ []))) h
     ∙ sym (push_reading (reader_of r buffer) b p)
 
-pub settled_plain : (r : Reader) (have : ℕ) (f : Found) → ((settled r have f).number ≡ 0) × ((settled r have f).used ≡ 1)
-settled_plain r have found.More = (refl, refl)
-settled_plain r have (found.Bad f) = (refl, refl)
-settled_plain r have found.End = (refl, refl)
-settled_plain r have (found.Whole c size) = (refl, refl)
+pub settled_one : (r : Reader) (have : ℕ) (f : Found) → (settled r have f).used ≡ 1
+settled_one r have found.More = refl
+settled_one r have (found.Bad f) = refl
+settled_one r have found.End = refl
+settled_one r have (found.Whole c size) = refl

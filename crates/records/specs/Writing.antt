@@ -1,7 +1,6 @@
 -- The writer: one record a call, an event's or the end's.
 use Rattle.std.specs.Prelude.{ℕ, ◌+◌, List, [], ◌∷◌, ◌++◌, Bool, true, false, cond, ◌&&◌, length, drop, ltb, leb, eqb}
 use Rattle.refusals.specs.Table.{too_short, malformed}
-use Rattle.records.specs.declared.Written.{Written}
 use Rattle.records.specs.Layout.{layout_of, field_bytes, fit, length_fits, record_bytes}
 use Rattle.records.specs.Events.{Captured, read, write, config_read, config_write, completion, link, tick, take, kind_of, values_of, plain_of}
 
@@ -49,6 +48,10 @@ item_bytes (message m) = []
 -- '12 for an event this layout cannot hold, then 8 for too short an area': shorter than this record
 abbrev pub write_refusal : Item → ℕ → ℕ
 write_refusal i room = cond (can_hold i) (cond (ltb room (length (item_bytes i))) too_short 0) malformed
+
+pub record Written : Type 0 where
+  pub number : ℕ
+  pub length : ℕ
 
 -- its number, and how many bytes it filled
 unfoldable pub written : Item → ℕ → Written

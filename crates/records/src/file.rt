@@ -7,17 +7,17 @@ use crate::reading::next;
 use crate::{Fault, Found};
 
 // How a file ends.
-#[derive(Clone, Copy)]
+#[derive(Clone, Copy, Debug, PartialEq, Eq)]
 pub enum Verdict {
-    // With a right end record, after so many events.
-    Ended(u64),
+    // With a right end record.
+    Ended,
     // Without one.
-    Cut(u64),
+    Cut,
     // With a fault, in the record at this byte.
     Bad(Fault, u64),
 }
 
-#[derive(Clone, Copy)]
+#[derive(Clone, Copy, Debug, PartialEq, Eq)]
 pub struct Summary {
     pub verdict: Verdict,
     pub events: u64,
@@ -25,35 +25,21 @@ pub struct Summary {
 
 // Reads a file record by record.
 pub fn verdict_of(s: &[u8]) -> Summary
-    ensures { (verdict_of result.verdict ≡ (file s.now).verdict) × (result.events ≡ length (file s.now).events) }
+    ensures { (verdict_of result ≡ (file s.now).verdict) × (result.events ≡ length (file s.now).events) }
 {
-    let mut n: u64 = 0;
-    let mut at: usize = 0;
+    let mut events = 0;
+    let mut at = 0;
     loop {
-        let found = next(n, &s[at..]);
-        match found {
-            Found::More => {
-                return Summary {
-                    verdict: Verdict::Cut(n),
-                    events: n,
-                };
-            }
-            Found::Bad(f) => {
-                return Summary {
-                    verdict: Verdict::Bad(f, at as u64),
-                    events: n,
-                };
-            }
-            Found::End => {
-                return Summary {
-                    verdict: Verdict::Ended(n),
-                    events: n,
-                };
-            }
+        let verdict = match next(events, &s[at..]) {
             Found::Whole(_, size) => {
-                n += 1;
+                events += 1;
                 at += size;
+                continue;
             }
-        }
+            Found::More => Verdict::Cut,
+            Found::Bad(fault) => Verdict::Bad(fault, at as u64),
+            Found::End => Verdict::Ended,
+        };
+        return Summary { verdict, events };
     }
 }

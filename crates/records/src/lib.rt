@@ -2,12 +2,17 @@
 // parts. docs/CAPTURE.md has the format.
 #![tactic(auto)]
 
+ghost use Rattle.std.specs.Prelude.{◌≡◌};
+ghost use Rattle.records.specs.Stream.{is_reading};
+
 pub mod file;
+mod kind;
 pub mod reading;
 pub mod stream;
 pub mod writing;
 
 use burst::Burst;
+use kind::MOST_BODY;
 
 // An event of a capture, as far as it is numbers. A write's data and a completion's bytes are lent beside it.
 #[derive(Clone, Copy)]
@@ -26,7 +31,7 @@ pub enum Event {
 }
 
 // What is wrong with a record.
-#[derive(Clone, Copy)]
+#[derive(Clone, Copy, Debug, PartialEq, Eq)]
 pub enum Fault {
     Kind,
     Length,
@@ -54,29 +59,30 @@ pub enum Item {
     Message,
 }
 
-// What a writer answers: the refusal's number, and how many bytes it filled.
-#[derive(Clone, Copy)]
-pub struct Written {
-    pub number: u32,
-    pub length: usize,
-}
-
 // How far a reader has come.
-#[derive(Clone, Copy)]
+#[derive(Clone, Copy, Debug, PartialEq, Eq)]
 pub enum Phase {
     Reading,
     Ended,
     Bad(Fault),
 }
 
+impl Phase {
+    pub fn is_reading(self) -> bool
+        ensures { result ≡ is_reading self }
+    {
+        matches!(self, Phase::Reading)
+    }
+}
+
 // A reader that is fed a file in parts. The bytes of a record that is not yet whole stand in a buffer that its caller lends.
-#[derive(Clone, Copy)]
+#[derive(Clone, Copy, Debug, PartialEq, Eq)]
 pub struct Reader {
     // Where the present record begins in the file.
     pub at: u64,
     // The events before it.
     pub events: u64,
-    // How many bytes of it have come.
+    // How many bytes of it have come. Kept: there is no heap, so the buffer is lent and its count goes with the reader, by value.
     pub have: usize,
     pub phase: Phase,
 }
@@ -85,7 +91,7 @@ pub struct Reader {
 pub const HEAD: usize = 3;
 
 // The longest record: a buffer for a reader has so many bytes.
-pub const LONGEST: usize = 4115;
+pub const LONGEST: usize = HEAD + MOST_BODY;
 
 // Where a write's data and a completion's bytes begin in their records.
 pub const DATA_AT: usize = 13;

@@ -1,35 +1,34 @@
 // The writer: one record a call.
-ghost use Rattle.std.specs.Prelude.{◌≡◌, true, ◌&&◌, [], ◌∷◌, ◌+◌, ◌≤◌, ◌<◌, length, take, leb};
+ghost use Rattle.std.specs.Prelude.{◌≡◌, true, ◌&&◌, ◌+◌, ◌≤◌, ◌<◌, length, take, leb, ◌^◌};
+ghost use Rattle.tlp.specs.Bytes.{flag};
 ghost use Rattle.records.specs.Layout.{burst_fields, fit};
 ghost use Rattle.records.specs.Events.{burst_values};
-ghost use Rattle.records.specs.Writing.{holds, can_hold, record_of, item_bytes, written, area_after};
-ghost use Rattle.records.specs.Code.Meaning.{captured_with, item_with};
-ghost use Rattle.records.specs.Code.Parts.{Small, config_fields, burst_low, config_high, burst_parts, config_parts, byte_parts, plain_parts, front_bytes, laid_out};
+ghost use Rattle.records.specs.Writing.{event, written, area_after};
+ghost use Rattle.records.specs.Code.Meaning.{captured_with, item_with, answered};
+ghost use Rattle.records.specs.Code.Parts.{burst_parts, config_parts, byte_parts, plain_parts, front_bytes, Lays};
 
-use crate::{Event, HEAD, Item, Written};
+use crate::kind::{Kind, MOST_BODY};
+use crate::{Event, HEAD, Item};
 use burst::Burst;
-use common::{copy_at, long};
-use refusals::{MALFORMED, TOO_SHORT};
+use refusals::Refusal;
 
-// What a body may have, and a write's data; a completion's header.
-const MOST_BODY: usize = 4112;
+// The bytes of a read's or a write's fields, and of a configuration access's.
+const BURST_BYTES: usize = 10;
 
-const MOST_DATA: usize = 4102;
-
-const LEAST_PACKET: usize = 12;
+const CONFIG_BYTES: usize = 9;
 
 // Offsets have 28 bits, counts 32.
-const OFFSETS: u64 = 268435456;
+const OFFSETS: u64 = 1 << 28;
 
-const COUNTS: u64 = 4294967296;
+const COUNTS: u64 = 1 << 32;
 
-// A record in numbers: its kind; its fields with their padding, as far as they go, in the bytes of `high` and two bytes `low`
+// A record in numbers: its kind; its fields with their padding, as far as they go, in the bytes of `high` and those of `low`
 // behind them; and how many of the bytes lent beside it follow.
-#[derive(Clone, Copy)]
+#[derive(Clone, Copy, Debug, PartialEq, Eq)]
 struct Parts {
-    kind: u32,
+    kind: Kind,
     high: u64,
-    low: u32,
+    low: u16,
     // The bytes of the fields.
     length: usize,
     plain: usize,
@@ -44,84 +43,44 @@ fn burst_fits(q: Burst) -> bool
     (q.size < 8) & ((q.beats - 1 < 256) & (q.kind < 4))
 }
 
-fn event_fits(e: Event, lent: &[u8]) -> bool
-    ensures { result ≡ holds (captured_with e lent.now) }
-{
-    match e {
-        Event::Read(q) => burst_fits(q),
-        Event::Write(q) => burst_fits(q) & (lent.len() <= MOST_DATA),
-        Event::ConfigRead(offset) => offset < OFFSETS,
-        Event::ConfigWrite(offset, strobes, _) => (offset < OFFSETS) & (strobes < 16),
-        Event::Completion => (LEAST_PACKET <= lent.len()) & (lent.len() <= MOST_BODY),
-        Event::Link(_) => true,
-        Event::Tick => true,
-        Event::Take(slot) => slot < 16,
-    }
-}
-
-// Whether the layout can hold the item.
-fn item_fits(item: Item, lent: &[u8]) -> bool
-    ensures { result ≡ can_hold (item_with item lent.now) }
-{
-    match item {
-        Item::Event(e) => event_fits(e, lent),
-        Item::End(n) => n < COUNTS,
-        Item::Message => false,
-    }
-}
-
-// The last two bytes of a burst's fields: size code, beats less one, type, and three zero bits.
-fn burst_low(q: Burst) -> u32
-    requires { leb 1 q.beats && fit burst_fields (burst_values q) ≡ true }
-    ensures { result ≡ burst_low q }
-{
-    q.size * 8192 + (q.beats - 1) * 32 + q.kind * 8
-}
-
-// The first eight bytes of a configuration access's fields: all but the last bit of the data.
-fn config_high(offset: u64, write: u64, strobes: u64, word: u64) -> u64
-    requires { fit config_fields (offset ∷ write ∷ strobes ∷ word ∷ []) ≡ true }
-    ensures { result ≡ config_high offset write strobes word }
-{
-    offset * 68719476736 + write * 34359738368 + strobes * 2147483648 + word / 2
-}
-
-// A read's or a write's numbers.
-fn burst_parts(kind: u32, q: Burst, plain: usize) -> Parts
+// A read's or a write's numbers. Of its last two bytes the last three bits are zero.
+fn burst_parts(kind: Kind, q: Burst, plain: usize) -> Parts
     requires { leb 1 q.beats && fit burst_fields (burst_values q) ≡ true }
     ensures { result ≡ burst_parts kind q plain }
 {
-    let start = q.start;
     Parts {
-        kind: kind,
-        high: start.0,
-        low: burst_low(q),
-        length: 10,
-        plain: plain,
+        kind,
+        high: q.start.0,
+        low: ((q.size << 13) + ((q.beats - 1) << 5) + (q.kind << 3)) as u16,
+        length: BURST_BYTES,
+        plain,
     }
 }
 
-fn config_parts(offset: u64, write: u64, strobes: u32, word: u32) -> Parts
-    requires { fit config_fields (offset ∷ write ∷ strobes ∷ word ∷ []) ≡ true }
-    ensures { result ≡ config_parts offset write strobes word }
+// A configuration access's numbers: in the first eight bytes all but the last bit of the data.
+fn config_parts(offset: u64, write: bool, strobes: u32, word: u32) -> Parts
+    requires { (offset < 2 ^ 28) × (strobes < 16) }
+    ensures { result ≡ config_parts offset (flag write) strobes word }
 {
     Parts {
-        kind: 3,
-        high: config_high(offset, write, long(strobes), long(word)),
-        low: word % 2 * 32768,
-        length: 9,
+        kind: Kind::Config,
+        high: (offset << 36)
+            + (u64::from(write) << 35)
+            + (u64::from(strobes) << 31)
+            + u64::from(word >> 1),
+        low: ((word % 2) << 15) as u16,
+        length: CONFIG_BYTES,
         plain: 0,
     }
 }
 
 // A record with one byte of fields.
-fn byte_parts(kind: u32, byte: u64) -> Parts
-    requires { byte < 256 }
+fn byte_parts(kind: Kind, byte: u8) -> Parts
     ensures { result ≡ byte_parts kind byte }
 {
     Parts {
-        kind: kind,
-        high: byte * 72057594037927936,
+        kind,
+        high: u64::from(byte) << 56,
         low: 0,
         length: 1,
         plain: 0,
@@ -129,106 +88,87 @@ fn byte_parts(kind: u32, byte: u64) -> Parts
 }
 
 // A record without fields.
-fn plain_parts(kind: u32, plain: usize) -> Parts
+fn plain_parts(kind: Kind, plain: usize) -> Parts
     ensures { result ≡ plain_parts kind plain }
 {
     Parts {
-        kind: kind,
+        kind,
         high: 0,
         low: 0,
         length: 0,
-        plain: plain,
+        plain,
     }
 }
 
-fn event_parts(e: Event, lent: &[u8]) -> Parts
-    requires { holds (captured_with e lent.now) ≡ true }
-    ensures { (laid_out result lent.now ≡ record_of (captured_with e lent.now)) × Small result lent.now }
+// The numbers of an event, if the layout can hold it.
+fn event_parts(e: Event, lent: &[u8]) -> Option<Parts>
+    ensures { Lays result (event (captured_with e lent.now)) lent.now }
 {
     match e {
-        Event::Read(q) => burst_parts(1, q, 0),
-        Event::Write(q) => burst_parts(2, q, lent.len()),
-        Event::ConfigRead(offset) => config_parts(offset, 0, 0, 0),
-        Event::ConfigWrite(offset, strobes, word) => config_parts(offset, 1, strobes, word),
-        Event::Completion => plain_parts(4, lent.len()),
-        Event::Link(up) => {
-            if up {
-                return byte_parts(5, 128);
-            }
-            byte_parts(5, 0)
+        Event::Read(q) => burst_fits(q).then(|| burst_parts(Kind::Read, q, 0)),
+        Event::Write(q) => {
+            let fits = burst_fits(q) & (lent.len() <= MOST_BODY - BURST_BYTES);
+            fits.then(|| burst_parts(Kind::Write, q, lent.len()))
         }
-        Event::Tick => plain_parts(6, 0),
-        Event::Take(slot) => byte_parts(7, long(slot) * 16),
+        Event::ConfigRead(offset) => (offset < OFFSETS).then(|| config_parts(offset, false, 0, 0)),
+        Event::ConfigWrite(offset, strobes, word) => {
+            let fits = (offset < OFFSETS) & (strobes < 16);
+            fits.then(|| config_parts(offset, true, strobes, word))
+        }
+        Event::Completion => {
+            let fits = Kind::Completion.fits(lent.len());
+            fits.then(|| plain_parts(Kind::Completion, lent.len()))
+        }
+        Event::Link(up) => Some(byte_parts(Kind::Link, u8::from(up) << 7)),
+        Event::Tick => Some(plain_parts(Kind::Tick, 0)),
+        Event::Take(slot) => (slot < 16).then(|| byte_parts(Kind::Take, (slot << 4) as u8)),
     }
 }
 
-fn item_parts(item: Item, lent: &[u8]) -> Parts
-    requires { can_hold (item_with item lent.now) ≡ true }
-    ensures { (laid_out result lent.now ≡ item_bytes (item_with item lent.now)) × Small result lent.now }
+// The numbers of an item, if the layout can hold it.
+fn item_parts(item: Item, lent: &[u8]) -> Option<Parts>
+    ensures { Lays result (item_with item lent.now) lent.now }
 {
     match item {
         Item::Event(e) => event_parts(e, lent),
-        Item::End(n) => Parts {
-            kind: 0,
-            high: n * 4294967296,
+        Item::End(n) => (n < COUNTS).then_some(Parts {
+            kind: Kind::End,
+            high: n << 32,
             low: 0,
             length: 4,
             plain: 0,
-        },
-        Item::Message => plain_parts(0, 0),
+        }),
+        Item::Message => None,
     }
 }
 
 // A record's head, and its fields as far as they go.
 fn front(p: Parts) -> [u8; 13]
-    requires { (p.kind < 8) × ((p.length ≤ 10) × (p.plain ≤ 4112)) }
+    requires { (p.length ≤ 10) × (p.plain ≤ 4112) }
     ensures { take (3 + p.length) result ≡ front_bytes p }
 {
-    let body = p.length + p.plain;
-    let a = p.high;
-    let b = p.low;
-    [
-        (p.kind * 16) as u8,
-        (body / 256 % 256) as u8,
-        (body % 256) as u8,
-        (a / 72057594037927936 % 256) as u8,
-        (a / 281474976710656 % 256) as u8,
-        (a / 1099511627776 % 256) as u8,
-        (a / 4294967296 % 256) as u8,
-        (a / 16777216 % 256) as u8,
-        (a / 65536 % 256) as u8,
-        (a / 256 % 256) as u8,
-        (a % 256) as u8,
-        (b / 256 % 256) as u8,
-        (b % 256) as u8,
-    ]
+    let body = (p.length + p.plain) as u16;
+    let mut bytes = [0; 13];
+    bytes[0] = p.kind.number() << 4;
+    bytes[1..HEAD].copy_from_slice(&body.to_be_bytes());
+    bytes[HEAD..11].copy_from_slice(&p.high.to_be_bytes());
+    bytes[11..].copy_from_slice(&p.low.to_be_bytes());
+    bytes
 }
 
-// Puts the record of an item, with the bytes lent beside it, into the area.
-pub fn write_record(item: Item, lent: &[u8], area: &mut [u8]) -> Written
-    ensures { (result ≡ written (item_with item lent.now) (length area.old)) × (area.new ≡ area_after (item_with item lent.now) area.old) }
+// Puts the record of an item, with the bytes lent beside it, into the area: how many bytes it filled.
+pub fn write_record(item: Item, lent: &[u8], area: &mut [u8]) -> Result<usize, Refusal>
+    ensures { (answered result ≡ written (item_with item lent.now) (length area.old)) × (area.new ≡ area_after (item_with item lent.now) area.old) }
 {
-    if !item_fits(item, lent) {
-        return Written {
-            number: MALFORMED,
-            length: 0,
-        };
-    }
-    let p = item_parts(item, lent);
+    let Some(p) = item_parts(item, lent) else {
+        return Err(Refusal::Malformed);
+    };
     let n = HEAD + p.length;
-    let plain = p.plain;
-    let size = n + plain;
+    let size = n + p.plain;
     if area.len() < size {
-        return Written {
-            number: TOO_SHORT,
-            length: 0,
-        };
+        return Err(Refusal::TooShort);
     }
-    let bytes = front(p);
-    copy_at(area, 0, &bytes, n);
-    copy_at(area, n, lent, plain);
-    Written {
-        number: 0,
-        length: size,
-    }
+    area[..n].copy_from_slice(&front(p)[..n]);
+    area[n..size].copy_from_slice(&lent[..p.plain]);
+    Ok(size)
 }

@@ -3,11 +3,11 @@ use mathlib.Core.Path.{◌≡◌, refl, sym, ap, ◌∙◌}
 use mathlib.Core.Logic.{◌≢◌}
 use mathlib.Core.List.{List, [], ◌∷◌, ◌++◌, append_assoc}
 use mathlib.Core.Bool.{Bool, true, false, not, ◌||◌}
-use Prim.Native.Nat.{ℕ, suc, ◌+◌, ◌-◌, ◌*◌, ◌<◌, ◌≤◌, zero-le}
+use Prim.Native.Nat.{ℕ, suc, ◌+◌, ◌-◌, ◌*◌, ◌/◌, ◌<◌, ◌≤◌, zero-le}
 use native.Mathlib.Nat.{zero-add, add-zero, sub-zero}
 use native.Mathlib.Omega.{arith}
 use native.Mathlib.Decide.{ℕ_discrete}
-use borrow.Author.Tests.{eq-eqb, ne_eqb}
+use borrow.Author.Tests.{eq-eqb, ne_eqb, lt-ltb, le-ltb}
 use lib.ListN.{length, drop, length-append, length-drop}
 use lib.Seq.{sets, sets-eq, take_at, drop-append-add, drop-drop, drop-length}
 use Rattle.bits.proofs.Flags.{apart}
@@ -15,7 +15,7 @@ use Rattle.machine.specs.Memory.{filled}
 use Rattle.records.specs.declared.Phase.{Phase}
 use Rattle.records.specs.Stream.{is_reading}
 use Rattle.replay.specs.Events.{Told, row_of, rows_of}
-use Rattle.replay.specs.Play.{Playing, Played, nothing, more, halts, play, granted}
+use Rattle.replay.specs.Play.{Playing, Played, nothing, more, halts, play, replay_number, granted}
 use Rattle.replay.specs.Code.Tables.{Turned, Going, Plays}
 
 -- ---- rows
@@ -133,7 +133,15 @@ not_halted allowed played p e = go (ℕ_discrete (allowed - played) 0) (is_readi
     go (no z) true f = record { fewer = omega (arith, z); reading = f }
     go (no z) false f = absurd (apart (sym e ∙ ap (λ (x : Bool). x || not (is_reading p)) (ne_eqb (allowed - played) 0 z) ∙ ap not f))
 
--- a refused call plays nothing
+-- ---- a refused call
+
+pub refused_held : (held rows allowed : ℕ) → held < 4115 → replay_number held rows allowed ≡ 8
+refused_held held rows allowed h = rw (lt-ltb held 4115 h)
+
+pub refused_rows : (held rows allowed : ℕ) → 4115 ≤ held → rows / 7 < allowed → replay_number held rows allowed ≡ 8
+refused_rows held rows allowed h k = rw (le-ltb held 4115 h, lt-ltb (rows / 7) allowed k)
+
+-- it plays nothing
 pub plays_none : (now : List Told → Playing) (input : List ℕ) (number allowed : ℕ) (rows : List ℕ) → ((told : List Told) → (now told).stage.told ≡ told) → number ≢ 0 → Plays (play (granted number allowed) (now []) input) now 0 0 rows rows
 plays_none now input number allowed rows s h =
     rw (ne_eqb number 0 h) (stops_halted (play 0 (now []) input) now input 0 0 0 rows rows s (going_start now input 0 rows) refl)

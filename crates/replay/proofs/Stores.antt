@@ -1,17 +1,13 @@
--- Seven stores in a row.
-use mathlib.Core.Path.{◌≡◌}
-use mathlib.Core.List.{List, [], ◌∷◌}
-use Prim.Native.Nat.{ℕ, suc, ◌+◌}
-use native.Mathlib.Omega.{arith}
-use lib.ListN.{set}
-use lib.Seq.{sets}
+-- A row put into the rows at once.
+use mathlib.Core.Path.{◌≡◌, refl, sym, ap, ◌∙◌}
+use mathlib.Core.List.{List, ◌++◌}
+use Prim.Native.Nat.{ℕ, ◌+◌, ◌≤◌}
+use borrow.Rule.Slice.PartMut.{put_mid}
+use lib.ListN.{length, take, drop}
+use lib.Seq.{sets, sets-eq, take-length}
+use Rattle.std.proofs.lemmas.Slice.{put_mid-paste}
 
-pub row_sets : (l : List ℕ) (at a b c d e f g : ℕ) → set (set (set (set (set (set (set l at a) (at + 1) b) (at + 2) c) (at + 3) d) (at + 4) e) (at + 5) f) (at + 6) g ≡ sets l at (a ∷ b ∷ c ∷ d ∷ e ∷ f ∷ g ∷ [])
-row_sets l at a b c d e f g =
-    let e1 : at + 1 ≡ suc at = omega arith in
-    let e2 : at + 2 ≡ suc (suc at) = omega arith in
-    let e3 : at + 3 ≡ suc (suc (suc at)) = omega arith in
-    let e4 : at + 4 ≡ suc (suc (suc (suc at))) = omega arith in
-    let e5 : at + 5 ≡ suc (suc (suc (suc (suc at)))) = omega arith in
-    let e6 : at + 6 ≡ suc (suc (suc (suc (suc (suc at))))) = omega arith in
-    rw (e1, e2, e3, e4, e5, e6)
+pub row_put : (l y q : List ℕ) (at k : ℕ) → y ≡ q → k ≡ length q → at + length q ≤ length l → put_mid at k l y ≡ sets l at q
+row_put l y q at k e h b =
+    put_mid-paste at k l y q (length q) e (sym h) refl
+    ∙ (ap (λ (x : List ℕ). take at l ++ x ++ drop (at + length q) l) (take-length q) ∙ sym (sets-eq q l at b))

@@ -14,7 +14,7 @@ use crate::rows::{ROW, put_row};
 use address::Settings;
 use messages::queue::DEPTH;
 use parts::{Core, Done, SLOT_CELLS, TAG_CELLS, TAGS};
-use records::stream::{Came, Got, advance, is_reading};
+use records::stream::{Came, Got};
 use records::{Event, Phase, Reader};
 
 // The first n bytes, or all.
@@ -85,13 +85,13 @@ fn completed_in(
     let reader = came.reader;
     let got = came.got;
     match got {
-        Got::Nothing => Turn {
+        None => Turn {
             core: c,
             reader: reader,
             used: came.used,
             played: 0,
         },
-        Got::Here(e) => {
+        Some(Got::Here(e)) => {
             let d = told_in(
                 s,
                 c,
@@ -114,7 +114,7 @@ fn completed_in(
                 played: 1,
             }
         }
-        Got::Kept(e, size) => {
+        Some(Got::Kept(e, size)) => {
             let d = told_in(
                 s,
                 c,
@@ -159,7 +159,7 @@ fn turn_in(
     requires { (at + row_size ≤ length rows.old) × ((most_held + 1 ≤ length held.old) × ((is_reading r.phase ≡ true) × (0 < length input.now))) }
     ensures { Turned (λ told. playing (reader_of r held.old) (stage_of (fixed s cells.now) c missing.old tags.old slots.old store.old area.old told)) (λ told. playing (reader_of result.reader held.new) (stage_of (fixed s cells.now) result.core missing.new tags.new slots.new store.new area.new told)) input.now result.used result.played rows.old rows.new at }
 {
-    let came = advance(r, held, input);
+    let came = r.advance(held, input);
     completed_in(
         s, c, cells, missing, tags, slots, store, area, rows, at, came, held, input,
     )
@@ -180,7 +180,7 @@ fn halted(p: Phase, played: usize, allowed: usize) -> bool
     if allowed <= played {
         return true;
     }
-    !is_reading(p)
+    !p.is_reading()
 }
 
 // At most so many events of the input are played.

@@ -1,21 +1,20 @@
 // The replay call.
-ghost use Rattle.std.specs.Prelude.{◌≡◌, [], ◌*◌, ◌^◌, ◌≤◌, ◌<◌, length};
-ghost use Rattle.records.specs.Layout.{longest};
-ghost use Rattle.replay.specs.Events.{row_size};
+ghost use Rattle.std.specs.Prelude.{◌≡◌, [], length, OnErr};
+ghost use Rattle.refusals.specs.Refusals.{number_in};
 ghost use Rattle.records.specs.Code.Meaning.{reader_of};
 ghost use Rattle.replay.specs.Play.{playing, play, replay_number, granted};
 ghost use Rattle.replay.specs.Code.Tables.{stage_with, Plays};
+ghost use Rattle.replay.specs.Code.Calls.{left};
 
 use crate::play::play_in;
 use crate::rows::ROW;
 use bridge::Bridge;
 use records::{LONGEST, Reader};
-use refusals::TOO_SHORT;
+use refusals::Refusal;
 
+// What a call leaves.
 #[derive(Clone, Copy)]
 pub struct Replayed {
-    // 8 where the reader's buffer or the rows are too short, else 0.
-    pub number: u32,
     pub bridge: Bridge,
     pub reader: Reader,
     // How many bytes of the input were read, and how many events were played.
@@ -23,22 +22,9 @@ pub struct Replayed {
     pub played: usize,
 }
 
-fn replay_number(held: usize, rows: usize, allowed: usize) -> u32
-    ensures number { result ≡ replay_number held rows allowed }
-    ensures room { result ≡ 0 → (longest ≤ held) × ((row_size * allowed ≤ rows) × (row_size * allowed < 2 ^ 64)) }
-{
-    if held < LONGEST {
-        return TOO_SHORT;
-    }
-    if rows / ROW < allowed {
-        return TOO_SHORT;
-    }
-    0
-}
-
 // Plays at most so many events that are complete in the input, those of a record that an earlier input began among them, and
-// puts a row of numbers for each into rows. `held` keeps the bytes of a record that is not yet whole from call to call. Where a
-// call is refused, nothing is read, played or changed.
+// puts a row of numbers for each into rows. `held` keeps the bytes of a record that is not yet whole from call to call. A call with
+// too short a buffer or too few rows is refused: nothing is read, played or changed.
 pub fn replay(
     b: Bridge,
     store: &mut [u8],
@@ -48,34 +34,22 @@ pub fn replay(
     held: &mut [u8],
     input: &[u8],
     allowed: usize,
-) -> Replayed
-    ensures number { result.number ≡ replay_number (length held.old) (length rows.old) allowed }
-    ensures plays { Plays (play (granted (replay_number (length held.old) (length rows.old) allowed) allowed) (playing (reader_of r held.old) (stage_with b store.old area.old [])) input.now) (λ told. playing (reader_of result.reader held.new) (stage_with result.bridge store.new area.new told)) result.used result.played rows.old rows.new }
-    ensures refused { (result.number ≡ 0 → ⊥) → (result.bridge ≡ b) × ((result.reader ≡ r) × (held.new ≡ held.old)) }
+) -> Result<Replayed, Refusal>
+    ensures number { number_in result ≡ replay_number (length held.old) (length rows.old) allowed }
+    ensures plays { Plays (play (granted (replay_number (length held.old) (length rows.old) allowed) allowed) (playing (reader_of r held.old) (stage_with b store.old area.old [])) input.now) (λ told. playing (reader_of (left b r result).reader held.new) (stage_with (left b r result).bridge store.new area.new told)) (left b r result).used (left b r result).played rows.old rows.new }
+    ensures refused { OnErr result ((store.new ≡ store.old) × ((area.new ≡ area.old) × ((rows.new ≡ rows.old) × (held.new ≡ held.old)))) }
 {
-    let number = replay_number(held.len(), rows.len(), allowed);
-    if number != 0 {
-        return Replayed {
-            number: number,
-            bridge: b,
-            reader: r,
-            used: 0,
-            played: 0,
-        };
+    if held.len() < LONGEST || rows.len() / ROW < allowed {
+        return Err(Refusal::TooShort);
     }
-    let settings = b.settings;
-    let core = b.core;
-    let cells = b.cells;
-    let mut missing = b.missing;
-    let mut tags = b.tags;
-    let mut slots = b.slots;
+    let mut bridge = b;
     let t = play_in(
-        settings,
-        core,
-        &cells,
-        &mut missing,
-        &mut tags,
-        &mut slots,
+        b.settings,
+        b.core,
+        &b.cells,
+        &mut bridge.missing,
+        &mut bridge.tags,
+        &mut bridge.slots,
         store,
         area,
         rows,
@@ -84,20 +58,11 @@ pub fn replay(
         input,
         allowed,
     );
-    let used = t.used;
-    let played = t.played;
-    let after = t.core;
-    let reader = t.reader;
-    let mut next = b;
-    next.core = after;
-    next.missing = missing;
-    next.tags = tags;
-    next.slots = slots;
-    Replayed {
-        number: 0,
-        bridge: next,
-        reader: reader,
-        used: used,
-        played: played,
-    }
+    bridge.core = t.core;
+    Ok(Replayed {
+        bridge,
+        reader: t.reader,
+        used: t.used,
+        played: t.played,
+    })
 }

@@ -4,10 +4,8 @@ ghost use Rattle.std.proofs.lemmas.List.Edits.{sets};
 ghost use Rattle.records.specs.Code.Meaning.{captured};
 ghost use Rattle.replay.specs.Events.{name_of, tells, row_of, row_size};
 
-use common::long;
 use parts::Answer;
 use records::Event;
-use refusals::response_code;
 
 // The numbers of a row: name, refusal number, response, slot, how many bytes were sent, data word, session.
 pub const ROW: usize = 7;
@@ -18,10 +16,10 @@ fn name_of(e: Event) -> u64
     match e {
         Event::Read(_) => 0,
         Event::Write(_) => 1,
-        Event::ConfigRead(_) => 2,
-        Event::ConfigWrite(_, _, _) => 2,
+        Event::ConfigRead(_) | Event::ConfigWrite(_, _, _) => 2,
         Event::Completion => 3,
-        Event::Link(up) => { if up { 4 } else { 5 } }
+        Event::Link(true) => 4,
+        Event::Link(false) => 5,
         Event::Tick => 6,
         Event::Take(_) => 7,
     }
@@ -32,13 +30,13 @@ pub fn put_row(rows: &mut [u64], at: usize, e: Event, a: Answer)
     requires { at + row_size ≤ length rows.old }
     ensures { (bytes : List ℕ) → rows.new ≡ sets rows.old at (row_of (tells (captured e bytes) a)) }
 {
-    let response = a.response;
-    let figures = a.figures;
-    rows[at] = name_of(e);
-    rows[at + 1] = long(a.number);
-    rows[at + 2] = long(response_code(response));
-    rows[at + 3] = long(a.slot);
-    rows[at + 4] = a.length as u64;
-    rows[at + 5] = long(a.word);
-    rows[at + 6] = long(figures.session);
+    rows[at..at + ROW].copy_from_slice(&[
+        name_of(e),
+        u64::from(a.number),
+        u64::from(a.response.code()),
+        u64::from(a.slot),
+        a.length as u64,
+        u64::from(a.word),
+        u64::from(a.figures.session),
+    ]);
 }

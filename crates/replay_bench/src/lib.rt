@@ -1,19 +1,9 @@
 // What bench/replay times: a capture played from its start on the bridge of the worked examples; replay_bench_c exports it for C.
 #![tactic(auto)]
 
-ghost use Rattle.std.specs.Prelude.{◌≡◌, ◌+◌, ◌≤◌};
-
 use bridge::Bridge;
-use records::stream::fresh;
+use records::Reader;
 use replay::replay::replay;
-
-// A sum that is within a bound.
-fn sum_in(a: usize, b: usize, most: usize) -> usize
-    requires { a + b ≤ most }
-    ensures { result ≡ a + b }
-{
-    a + b
-}
 
 // Plays the whole input by calls with one allowance, each on what the last has not read and with its rows from the start of the
 // slice, up to the end, a fault, or a call that reads nothing. How many events were played.
@@ -26,25 +16,21 @@ pub fn replay_bench_play(
     allowed: usize,
 ) -> u64 {
     let settings = address::example_settings();
-    let mut b = Bridge::new(settings).bridge;
-    let mut r = fresh();
-    let mut at = 0;
+    let mut bridge = Bridge::new(settings).bridge;
+    let mut reader = Reader::fresh();
+    let mut rest = input;
     let mut events: u64 = 0;
-    while at < input.len() {
-        let x = replay(b, store, area, rows, r, held, &input[at..], allowed);
-        let used = x.used;
-        if used < 1 {
+    while !rest.is_empty() {
+        let Ok(next) = replay(bridge, store, area, rows, reader, held, rest, allowed) else {
+            return events;
+        };
+        if next.used < 1 || rest.len() < next.used {
             return events;
         }
-        if input.len() - at < used {
-            return events;
-        }
-        at = sum_in(at, used, input.len());
-        events = std::num::wrapping_add_u64(events, x.played as u64);
-        let bridge = x.bridge;
-        let reader = x.reader;
-        b = bridge;
-        r = reader;
+        rest = &rest[next.used..];
+        events = events.wrapping_add(next.played as u64);
+        bridge = next.bridge;
+        reader = next.reader;
     }
     events
 }

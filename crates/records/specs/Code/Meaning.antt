@@ -1,5 +1,7 @@
 -- What the code's values mean: an event of numbers with the bytes of its record, and a reader with the buffer that it is lent.
-use Rattle.std.specs.Prelude.{ℕ, ◌+◌, ◌-◌, min, List, take, drop}
+use Rattle.std.specs.Prelude.{ℕ, ◌+◌, ◌-◌, min, List, Result, Ok, Err, take, drop}
+use Rattle.refusals.specs.declared.Refusal.{Refusal}
+use Rattle.refusals.specs.Refusals.{number_of}
 use Rattle.records.specs.declared.Event.{Event}
 use Rattle.records.specs.declared.Event.TheVariants as code
 use Rattle.records.specs.declared.Item.{Item}
@@ -54,6 +56,11 @@ abbrev pub item_with : Item → List ℕ → writing.Item
 item_with (item.Event e) d = writing.event (captured_with e d)
 item_with (item.End n) d = writing.end n
 item_with item.Message d = writing.message d
+
+-- what the writer answers, as its definition tells it: the refusal's number, and how many bytes it filled
+abbrev pub answered : Result ℕ Refusal → writing.Written
+answered (Ok n) = record { number = 0; length = n }
+answered (Err r) = record { number = number_of r; length = 0 }
 
 -- ---- the reader
 

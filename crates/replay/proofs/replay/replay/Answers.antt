@@ -1,22 +1,14 @@
-use mathlib.Core.Path.{refl}
-use Rattle.replay.proofs.Going.{plays_none}
+use mathlib.Core.Path.{◌≡◌, refl}
+use native.Mathlib.Omega.{arith}
+use lib.ListN.{length}
+use Rattle.replay.specs.Play.{replay_number}
+use Rattle.replay.proofs.Going.{refused_held, refused_rows, plays_none}
 use Rattle.replay.proofs.replay.replay.Goals as goal
+use Rattle.replay.proofs.replay.replay.Goals.{then-held-lt-LONGEST-via-then-held-lt-LONGEST, then-held-lt-LONGEST-via-else-held-lt-LONGEST+then-rows-allowed}
 
-pub returns-then-number-ne0 : goal.returns-then-number-ne0
-returns-then-number-ne0 c = record {
-  number = c.replay_number-number.ensures.number;
-  plays = rw (← c.replay_number-number.ensures.number) (plays_none _ c.args.input.now c.replay_number-number.result c.args.allowed c.args.rows.now (λ told. refl) c.if-number-ne0.true);
-  refused = λ n. (refl, (refl, refl));
-}
-
-pub play_in-t-requires : goal.play_in-t-requires
-play_in-t-requires c = let w = c.replay_number-number.ensures.room c.if-number-ne0.false in (w.1.0, (w.0, w.1.1))
-
-pub returns : goal.returns
-returns c =
-    let n = c.replay_number-number.ensures.number in
-    let z = c.if-number-ne0.false in record {
-      number = rw (← n, z);
-      plays = rw (← n, z) c.play_in-t.ensures;
-      refused = λ h. absurd (h refl);
-    }
+pub returns-then-held-lt-LONGEST-clause-plays : goal.returns-then-held-lt-LONGEST-clause-plays
+returns-then-held-lt-LONGEST-clause-plays c =
+    let held = length c.args.held.now in
+    let rows = length c.args.rows.now in
+    let n : replay_number held rows c.args.allowed ≡ 8 = elim c.then-held-lt-LONGEST.branch [ then-held-lt-LONGEST-via-then-held-lt-LONGEST w ↦ refused_held held rows c.args.allowed w.if-held-lt-LONGEST.true | then-held-lt-LONGEST-via-else-held-lt-LONGEST+then-rows-allowed w ↦ refused_rows held rows c.args.allowed w.if-held-lt-LONGEST.false w.if-rows-allowed.true ] in
+    plays_none _ c.args.input.now (replay_number held rows c.args.allowed) c.args.allowed c.args.rows.now (λ told. refl) (λ e. omega (arith, n, e))
