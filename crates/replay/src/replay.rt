@@ -43,22 +43,7 @@ pub fn replay(
         return Err(Refusal::TooShort);
     }
     let mut bridge = b;
-    let t = play_in(
-        b.settings,
-        b.core,
-        &b.cells,
-        &mut bridge.missing,
-        &mut bridge.tags,
-        &mut bridge.slots,
-        store,
-        area,
-        rows,
-        r,
-        held,
-        input,
-        allowed,
-    );
-    bridge.core = t.core;
+    let t = play_in(&mut bridge, store, area, rows, r, held, input, allowed);
     Ok(Replayed {
         bridge,
         reader: t.reader,

@@ -1,6 +1,7 @@
 // What an event answered, as a row of numbers.
 ghost use Rattle.std.specs.Prelude.{◌≡◌, List, ℕ, ◌+◌, ◌≤◌, length};
 ghost use Rattle.std.proofs.lemmas.List.Edits.{sets};
+ghost use Rattle.parts.specs.Code.Struct.{answer_of};
 ghost use Rattle.records.specs.Code.Meaning.{captured};
 ghost use Rattle.replay.specs.Events.{name_of, tells, row_of, row_size};
 
@@ -28,15 +29,27 @@ fn name_of(e: Event) -> u64
 // The row of an event, put into rows from a place on.
 pub fn put_row(rows: &mut [u64], at: usize, e: Event, a: Answer)
     requires { at + row_size ≤ length rows.old }
-    ensures { (bytes : List ℕ) → rows.new ≡ sets rows.old at (row_of (tells (captured e bytes) a)) }
+    ensures { (bytes : List ℕ) → rows.new ≡ sets rows.old at (row_of (tells (captured e bytes) (answer_of a))) }
 {
-    rows[at..at + ROW].copy_from_slice(&[
-        name_of(e),
-        u64::from(a.number),
-        u64::from(a.response.code()),
-        u64::from(a.slot),
-        a.length as u64,
-        u64::from(a.word),
-        u64::from(a.figures.session),
-    ]);
+    let name = name_of(e);
+    rows[at..at + ROW].copy_from_slice(&match a {
+        Ok(x) => [
+            name,
+            0,
+            u64::from(x.response.code()),
+            u64::from(x.slot),
+            x.length as u64,
+            u64::from(x.word),
+            u64::from(x.figures.session),
+        ],
+        Err(why) => [
+            name,
+            u64::from(why.number()),
+            u64::from(why.response().code()),
+            0,
+            0,
+            0,
+            0,
+        ],
+    });
 }

@@ -2,20 +2,15 @@
 use Rattle.std.specs.Prelude.{◌≡◌, List, ◌++◌, ℕ, suc, ◌-◌, ◌≤◌, ◌<◌, length, drop}
 use Rattle.std.proofs.Math.Option.{Option}
 use Rattle.std.proofs.lemmas.List.Edits.{sets}
-use Rattle.parts.specs.declared.Core as code
 use Rattle.bridge.specs.declared.Bridge as bridge
 use Rattle.bridge.specs.View.{view_of}
 use Rattle.machine.specs.Completions.{held}
-use Rattle.machine.specs.Code.Tables.{Fixed, held_of}
 use Rattle.machine.specs.Memory.{filled}
 use Rattle.replay.specs.Events.{Told, Stage, stage, rows_of}
 use Rattle.records.specs.Events.{Captured}
 use Rattle.replay.specs.Play.{Playing, Played, more, counts, staged, play}
 
-abbrev pub stage_of : Fixed → code.Core → List ℕ → List ℕ → List ℕ → List ℕ → List ℕ → List Told → Stage
-stage_of f c m t x store area told = stage (held_of f c m t x store) area told
-
--- and a bridge by value
+-- the stage of a bridge by value
 abbrev pub stage_with : bridge.Bridge → List ℕ → List ℕ → List Told → Stage
 stage_with b store area told = stage (held (view_of b) store) area told
 
