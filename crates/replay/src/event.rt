@@ -24,6 +24,7 @@ pub fn behind(bytes: &[u8], at: usize) -> &[u8]
 }
 
 // An event with the bytes of its record, on a bridge; store and area are lent as to any event.
+#[tactic(auto, unfolding(crate::specs::Events::played))]
 pub fn event_in(b: &mut Bridge, store: &mut [u8], area: &mut [u8], e: Event, bytes: &[u8]) -> Answer
     ensures stage { (told : List Told) → stage_with b.new store.new area.new (told ++ tells (captured e bytes.now) (answer_of result) ∷ []) ≡ played (stage_with b.old store.old area.old told) (captured e bytes.now) }
     ensures cells { b.new.cells ≡ b.old.cells }

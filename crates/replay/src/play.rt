@@ -1,11 +1,10 @@
 // So many events of an input, played.
-ghost use Rattle.std.specs.Prelude.{◌≡◌, Some, List, [], ◌∷◌, ◌++◌, true, ℕ, suc, ◌+◌, ◌-◌, ◌*◌, ◌^◌, ◌≤◌, ◌<◌, length, take, drop};
-ghost use Rattle.std.proofs.lemmas.List.Edits.{sets};
-ghost use Rattle.parts.specs.Code.Struct.{answer_of};
+ghost use Rattle.std.specs.Prelude.{◌≡◌, List, [], ◌∷◌, ◌++◌, true, ℕ, suc, ◌+◌, ◌-◌, ◌*◌, ◌^◌, ◌≤◌, ◌<◌, length, take, drop};
+ghost use Rattle.std.proofs.Math.Option.{some};
 ghost use Rattle.records.specs.Stream.{is_reading};
 ghost use Rattle.records.specs.Code.Meaning.{captured, most_held, reader_of};
 ghost use Rattle.records.specs.Code.Steps.{event_of};
-ghost use Rattle.replay.specs.Events.{Told, played, tells, row_of, row_size};
+ghost use Rattle.replay.specs.Events.{Told, row_size};
 ghost use Rattle.replay.specs.Play.{playing, halts, play};
 ghost use Rattle.replay.specs.Code.Tables.{stage_with, Does, Turned, Plays};
 
@@ -23,6 +22,7 @@ pub fn first_of(s: &[u8], n: usize) -> &[u8]
 }
 
 // An event is played, and its row put into rows.
+#[tactic(auto, using(crate::proofs::Turns::does_one))]
 fn told_in(
     b: &mut Bridge,
     store: &mut [u8],
@@ -33,7 +33,7 @@ fn told_in(
     bytes: &[u8],
 )
     requires { at + row_size ≤ length rows.old }
-    ensures told { Does (λ told. stage_with b.old store.old area.old told) (λ told. stage_with b.new store.new area.new told) (Some (captured e bytes.now)) 1 rows.old rows.new at }
+    ensures told { Does (λ told. stage_with b.old store.old area.old told) (λ told. stage_with b.new store.new area.new told) (some (captured e bytes.now)) 1 rows.old rows.new at }
     ensures cells { b.new.cells ≡ b.old.cells }
 {
     let answer = event_in(b, store, area, e, bytes);
@@ -50,6 +50,7 @@ pub struct Turn {
 }
 
 // The event that a step of the reader completed, if any; how many were played.
+#[tactic(auto, using(crate::proofs::Turns::does_none))]
 fn completed_in(
     b: &mut Bridge,
     store: &mut [u8],
@@ -78,6 +79,7 @@ fn completed_in(
 }
 
 // A step of the reader, and the event that it completes.
+#[tactic(auto, using(crate::proofs::Turns::turned))]
 fn turn_in(
     b: &mut Bridge,
     store: &mut [u8],
