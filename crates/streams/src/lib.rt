@@ -6,8 +6,10 @@
 ghost use Rattle.std.specs.Prelude.{◌≡◌, ◌≤◌, length, take, IsOk, OnOk, IsErrOf};
 ghost use Rattle.std.specs.Io.KnownBytes.{Appends, Consumes, IsAtEnd};
 
+use arrayvec::ArrayString;
+use std::fmt::Write as _;
 use std::io;
-use std::io::{Cursor, Error, ErrorKind, Read, Write};
+use std::io::{Error, ErrorKind, Read, Write};
 
 // Why a buffer was not filled: the input ended before its last byte, or a read failed.
 #[derive(Clone, Copy, Debug, PartialEq, Eq)]
@@ -22,19 +24,13 @@ pub struct WriteFailed;
 
 // One line: what failed, and the reason in the system's words, without the number that it has for the error.
 fn say(rt: &impl Eprint, what: &str, error: io::Error) {
-    let mut text = Cursor::new([0u8; 320]);
+    let mut text = ArrayString::<320>::new();
     let _ = write!(text, "{error}");
-    let bytes = text.into_inner();
-    let reason = match str::from_utf8(&bytes) {
-        Ok(whole) => reason_in(whole),
-        Err(_) => "",
-    };
+    let reason = reason_in(text.as_str());
     let _ = eprintln!(rt; "{what}: {reason}");
 }
 
-// Behind its text stand the zeros of the buffer.
-fn reason_in(whole: &str) -> &str {
-    let text = whole.trim_end_matches('\0');
+fn reason_in(text: &str) -> &str {
     match text.split_once(" (os error ") {
         Some((reason, _)) => reason,
         None => text,

@@ -1,5 +1,6 @@
 // Numbers in a file's bytes, most significant byte first, and reading the bytes. Past the end of a slice its bytes count as 0.
-ghost use Rattle.std.specs.Prelude.{◌≡◌, ◌+◌, ◌*◌, ◌^◌, ◌<◌, ◌==◌};
+ghost use Rattle.std.specs.Prelude.{◌≡◌, ◌+◌, ◌*◌, ◌^◌, ◌<◌, ◌≤◌, ◌==◌, length, take, OnOk};
+ghost use Rattle.std.specs.Io.KnownBytes.{Consumes};
 ghost use Rattle.traffic_text.specs.Numbers.{byte_at, joined_of, word_at, long_at};
 
 use std::io::Read;
@@ -13,7 +14,10 @@ pub struct Input<'a, R, E> {
 
 impl<R: Read, E: Eprint> Input<'_, R, E> {
     // The next n bytes of the file, to the front of a buffer that has room for them.
-    pub fn fetch(&mut self, buffer: &mut [u8], n: usize) -> Result<(), Unfilled> {
+    pub fn fetch(&mut self, buffer: &mut [u8], n: usize) -> Result<(), Unfilled>
+        ensures room { OnOk result (n ≤ length buffer.new) }
+        ensures all { OnOk result (Consumes (R.remaining self.old.reader) (R.remaining self.new.reader) (take n buffer.new)) }
+    {
         if buffer.len() < n {
             return Err(Unfilled::Ended);
         }
