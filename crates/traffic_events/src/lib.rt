@@ -15,6 +15,7 @@ use traffic_text::line::{Area, Part, print};
 use traffic_text::sum::sum_of;
 
 // The store of a file, and the area.
+#[derive(Drop)]
 pub struct Lent<'a> {
     pub store: &'a mut [u8],
     pub area: &'a mut [u8],

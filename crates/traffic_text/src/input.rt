@@ -7,6 +7,7 @@ use std::io::Read;
 use streams::Unfilled;
 
 // What a file is read from, and where a read that fails is said.
+#[derive(Drop)]
 pub struct Input<'a, R, E> {
     pub reader: R,
     pub rt: &'a E,
