@@ -2,7 +2,6 @@
 use crate::text::Lines;
 use records::{Fault, Phase, Reader};
 use replay::rows::ROW;
-use std::fmt;
 use streams::WriteFailed;
 
 // The events of one call.
@@ -10,22 +9,17 @@ pub const EVENTS: usize = 1024;
 
 pub const CELLS: usize = ROW * EVENTS;
 
-// An event's name, by the number that stands first in its row.
-#[derive(Clone, Copy)]
-struct Name(u64);
-
-impl fmt::Display for Name {
-    fn fmt<W: fmt::Write>(&self, f: &mut fmt::Formatter<W>) -> fmt::Result {
-        f.write_str(match self.0 {
-            0 => "read",
-            1 => "write",
-            2 => "config",
-            3 => "completion",
-            4 => "link up",
-            5 => "link down",
-            6 => "tick",
-            _ => "take",
-        })
+// An event's name. Kept: a number for it, since it stands so in the rows of `replay` (`row_of`).
+fn name_of(which: u64) -> &'static str {
+    match which {
+        0 => "read",
+        1 => "write",
+        2 => "config",
+        3 => "completion",
+        4 => "link up",
+        5 => "link down",
+        6 => "tick",
+        _ => "take",
     }
 }
 
@@ -39,7 +33,7 @@ pub fn say_events<P: Print + Eprint>(
     let mut event = before;
     for row in rows.chunks_exact(ROW).take(played) {
         event = event.wrapping_add(1);
-        let name = Name(row[0]);
+        let name = name_of(row[0]);
         match row[1] {
             0 => lines.say(format_args!("{event} {name}"))?,
             refusal => lines.say(format_args!("{event} {name} {refusal}"))?,
@@ -48,17 +42,12 @@ pub fn say_events<P: Print + Eprint>(
     Ok(())
 }
 
-#[derive(Clone, Copy)]
-struct Shown<T: Copy>(T);
-
-impl fmt::Display for Shown<Fault> {
-    fn fmt<W: fmt::Write>(&self, f: &mut fmt::Formatter<W>) -> fmt::Result {
-        f.write_str(match self.0 {
-            Fault::Kind => "kind",
-            Fault::Length => "length",
-            Fault::Padding => "padding",
-            Fault::Count => "count",
-        })
+fn fault_name(fault: Fault) -> &'static str {
+    match fault {
+        Fault::Kind => "kind",
+        Fault::Length => "length",
+        Fault::Padding => "padding",
+        Fault::Count => "count",
     }
 }
 
@@ -68,6 +57,6 @@ pub fn say_last<P: Print + Eprint>(lines: &mut Lines<P>, r: Reader) -> Result<()
     match r.phase {
         Phase::Ended => lines.say(format_args!("end {events} of {events}")),
         Phase::Reading => lines.say(format_args!("cut after {events}")),
-        Phase::Bad(fault) => lines.say(format_args!("bad {} at {}", Shown(fault), r.at)),
+        Phase::Bad(fault) => lines.say(format_args!("bad {} at {}", fault_name(fault), r.at)),
     }
 }

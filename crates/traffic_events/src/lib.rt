@@ -56,7 +56,7 @@ impl Player {
     }
 
     // What the line of an event shows after it.
-    fn after(self) -> After {
+    fn after(&self) -> After {
         let b = self.bridge;
         After {
             registers: [

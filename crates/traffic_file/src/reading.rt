@@ -11,8 +11,9 @@ use traffic_text::input::{Input, word_at};
 #[derive(Clone, Copy, Debug, PartialEq, Eq)]
 pub enum Part {
     Header,
-    // A record after so many events: one of an event, or the end record.
+    // The record of an event after so many others.
     Event(u64),
+    // The end record.
     End,
 }
 

@@ -1,7 +1,7 @@
 // Numbers in a file's bytes, most significant byte first, and reading the bytes. Past the end of a slice its bytes count as 0.
-ghost use Rattle.std.specs.Prelude.{◌≡◌, ◌+◌, ◌*◌, ◌^◌, ◌<◌, ◌≤◌, ◌==◌, length, take, OnOk};
+ghost use Rattle.std.specs.Prelude.{◌≡◌, ◌^◌, ◌<◌, ◌≤◌, ◌==◌, length, take, OnOk};
 ghost use Rattle.std.specs.Io.KnownBytes.{Consumes};
-ghost use Rattle.traffic_text.specs.Numbers.{byte_at, joined_of, word_at, long_at};
+ghost use Rattle.traffic_text.specs.Numbers.{byte_at, word_at, long_at};
 
 use std::io::Read;
 use streams::Unfilled;
