@@ -3,70 +3,68 @@
 // the one for the other.
 #![tactic(auto)]
 
-ghost use Rattle.std.specs.Prelude.{◌≡◌, true, false, ◌≤◌, length, take};
+ghost use Rattle.std.specs.Prelude.{◌≡◌, ◌≤◌, length, take, IsOk, OnOk, IsErrOf};
 ghost use Rattle.std.specs.Io.KnownBytes.{Appends, Consumes, IsAtEnd};
 
+use arrayvec::ArrayString;
+use std::fmt::Write as _;
 use std::io;
-use std::io::{Cursor, Error, ErrorKind, Read, Write};
+use std::io::{Error, ErrorKind, Read, Write};
 
-// Of the bytes that were asked for: all came, the input ended before the last, or a read failed.
-#[derive(Drop)]
-pub enum Fetched {
-    All,
+// Why a buffer was not filled: the input ended before its last byte, or a read failed.
+#[derive(Clone, Copy, Debug, PartialEq, Eq)]
+pub enum Unfilled {
     Ended,
     Failed,
 }
 
+// Not all of a buffer was written, as is said on standard error.
+#[derive(Clone, Copy, Debug, PartialEq, Eq)]
+pub struct WriteFailed;
+
 // One line: what failed, and the reason in the system's words, without the number that it has for the error.
 fn say(rt: &impl Eprint, what: &str, error: io::Error) {
-    let mut text = Cursor::new([0u8; 320]);
+    let mut text = ArrayString::<320>::new();
     let _ = write!(text, "{error}");
-    let bytes = text.into_inner();
-    let reason = match str::from_utf8(&bytes) {
-        Ok(whole) => reason_in(whole),
-        Err(_) => "",
-    };
+    let reason = reason_in(text.as_str());
     let _ = eprintln!(rt; "{what}: {reason}");
 }
 
-// Behind its text stand the zeros of the buffer.
-fn reason_in(whole: &str) -> &str {
-    let text = whole.trim_end_matches('\0');
+fn reason_in(text: &str) -> &str {
     match text.split_once(" (os error ") {
         Some((reason, _)) => reason,
         None => text,
     }
 }
 
-fn read_failed(rt: &impl Eprint, error: io::Error) -> Fetched
-    ensures { result ≡ Fetched.Failed }
+fn read_failed(rt: &impl Eprint, error: io::Error) -> Unfilled
+    ensures { result ≡ Unfilled.Failed }
 {
     say(rt, "standard input", error);
-    Fetched::Failed
+    Unfilled::Failed
 }
 
-fn write_failed(rt: &impl Eprint, error: io::Error) -> bool
-    ensures { result ≡ false }
-{
+fn write_failed(rt: &impl Eprint, error: io::Error) -> WriteFailed {
     say(rt, "standard output", error);
-    false
+    WriteFailed
 }
 
 // Fills the buffer from standard input. An empty one is full.
-pub fn read_all<R: Read>(input: &mut R, rt: &impl Eprint, buffer: &mut [u8]) -> Fetched
-    ensures empty { length buffer.old ≡ 0 → result ≡ Fetched.All }
-    ensures all { result ≡ Fetched.All → Consumes (R.remaining input.old) (R.remaining input.new) buffer.new }
-    ensures ended { result ≡ Fetched.Ended → IsAtEnd (R.remaining input.new) }
+// Kept: std's `read_exact` goes on after a signal and gives an end as an error; here a signal fails, and an end is told apart.
+pub fn read_all<R: Read>(input: &mut R, rt: &impl Eprint, buffer: &mut [u8]) -> Result<(), Unfilled>
+    ensures empty { length buffer.old ≡ 0 → IsOk result }
+    ensures all { OnOk result (Consumes (R.remaining input.old) (R.remaining input.new) buffer.new) }
+    ensures ended { IsErrOf result Unfilled.Ended → IsAtEnd (R.remaining input.new) }
 {
     let mut done = 0;
     while done < buffer.len() {
         match input.read(&mut buffer[done..]) {
-            Ok(0) => return Fetched::Ended,
+            Ok(0) => return Err(Unfilled::Ended),
             Ok(n) => done += n,
-            Err(e) => return read_failed(rt, e),
+            Err(e) => return Err(read_failed(rt, e)),
         }
     }
-    Fetched::All
+    Ok(())
 }
 
 // What standard input hands over at once, at the front of the buffer: how many bytes. None at its end, after a failed read, and
@@ -84,18 +82,23 @@ pub fn read_some<R: Read>(input: &mut R, rt: &impl Eprint, buffer: &mut [u8]) ->
     }
 }
 
-// Writes the buffer to standard output; whether all of it was written.
-pub fn write_all<W: Write>(output: &mut W, rt: &impl Eprint, buffer: &[u8]) -> bool
-    ensures empty { length buffer.now ≡ 0 → result ≡ true }
-    ensures all { result ≡ true → Appends (W.contents output.old) (W.contents output.new) buffer.now }
+// Writes the buffer to standard output, all of it.
+// Kept: std's `write_all` goes on after a signal, and its contract says nothing of an empty buffer.
+pub fn write_all<W: Write>(
+    output: &mut W,
+    rt: &impl Eprint,
+    buffer: &[u8],
+) -> Result<(), WriteFailed>
+    ensures empty { length buffer.now ≡ 0 → IsOk result }
+    ensures all { OnOk result (Appends (W.contents output.old) (W.contents output.new) buffer.now) }
 {
     let mut done = 0;
     while done < buffer.len() {
         match output.write(&buffer[done..]) {
-            Ok(0) => return write_failed(rt, Error::from(ErrorKind::WriteZero)),
+            Ok(0) => return Err(write_failed(rt, Error::from(ErrorKind::WriteZero))),
             Ok(n) => done += n,
-            Err(e) => return write_failed(rt, e),
+            Err(e) => return Err(write_failed(rt, e)),
         }
     }
-    true
+    Ok(())
 }

@@ -1,85 +1,62 @@
 // The bridge that a header asks for.
 use address::{Settings, Windows};
 use bridge::{Answered, Bridge};
-use common::index;
-use traffic_file::header::{WINDOW, is_list};
+use std::array;
+use traffic_file::header::{Header, WINDOW};
 use traffic_text::input::{long_at, word_at};
 use window_list::{Others, Window, bridge_from_first};
 
 // The window whose three numbers begin at a place; zeros past every header.
 fn window_in(h: &[u8], at: usize) -> Window {
-    if 900 < at {
-        return Window {
-            base: 0,
-            size: 0,
-            target: 0,
-        };
-    }
+    let numbers = h.get(at..).unwrap_or(&[]);
     Window {
-        base: long_at(h, at),
-        size: long_at(h, at + 8),
-        target: long_at(h, at + 16),
+        base: long_at(numbers, 0),
+        size: long_at(numbers, 8),
+        target: long_at(numbers, 16),
     }
 }
 
-fn settings_in(h: &[u8]) -> Settings {
-    let a = window_in(h, 12);
-    let b = window_in(h, 36);
-    let c = window_in(h, 60);
-    let d = window_in(h, 84);
-    let e = window_in(h, 108);
-    let f = window_in(h, 132);
+fn others_in(h: &[u8]) -> Others {
+    Others {
+        bits: word_at(h, 156),
+        reads: word_at(h, 160),
+        writes: word_at(h, 164),
+        limit: word_at(h, 168),
+        requester: word_at(h, 172),
+    }
+}
+
+// From plain arrays, or from a list of the header's windows and one more.
+fn made(h: Header) -> Answered {
+    let six: [Window; 6] = array::from_fn(|k| window_in(h.bytes, 12 + k * WINDOW));
+    let count = word_at(h.bytes, 8);
+    let others = others_in(h.bytes);
+    if h.is_list() {
+        let [a, b, c, d, e, f] = six;
+        let seven = [a, b, c, d, e, f, window_in(h.more, 0)];
+        return bridge_from_first(count as usize, seven, others);
+    }
     let windows = Windows {
-        count: word_at(h, 8),
-        base: [a.base, b.base, c.base, d.base, e.base, f.base],
-        size: [a.size, b.size, c.size, d.size, e.size, f.size],
-        target: [a.target, b.target, c.target, d.target, e.target, f.target],
+        count,
+        base: six.map(|w| w.base),
+        size: six.map(|w| w.size),
+        target: six.map(|w| w.target),
     };
-    Settings {
-        windows: windows,
-        bits: word_at(h, 156),
-        reads: word_at(h, 160),
-        writes: word_at(h, 164),
-        limit: word_at(h, 168),
-        requester: word_at(h, 172),
-    }
-}
-
-// The bridge from a list of the header's windows and one more.
-fn made_from_list(h: &[u8], more: &[u8]) -> Answered {
-    let seven = [
-        window_in(h, 12),
-        window_in(h, 36),
-        window_in(h, 60),
-        window_in(h, 84),
-        window_in(h, 108),
-        window_in(h, 132),
-        window_in(more, 0),
-    ];
-    let others = Others {
-        bits: word_at(h, 156),
-        reads: word_at(h, 160),
-        writes: word_at(h, 164),
-        limit: word_at(h, 168),
-        requester: word_at(h, 172),
-    };
-    bridge_from_first(index(word_at(h, 8)), seven, others)
-}
-
-fn made(h: &[u8], more: &[u8]) -> Answered {
-    if is_list(h) {
-        return made_from_list(h, more);
-    }
-    Bridge::new(settings_in(h))
+    Bridge::new(Settings {
+        windows,
+        bits: others.bits,
+        reads: others.reads,
+        writes: others.writes,
+        limit: others.limit,
+        requester: others.requester,
+    })
 }
 
 // The bridge with its first tick value and its first session value, and the answer of making it. Where the version has no
 // first session value, zeros stand in its place.
-pub fn first_bridge(h: &[u8], more: &[u8]) -> Answered {
-    let mut r = made(h, more);
-    let ticks = word_at(h, 176);
-    r.bridge.core.ticks = ticks;
-    let session = word_at(more, WINDOW);
-    r.bridge.core.session = session;
+pub fn first_bridge(h: Header) -> Answered {
+    let mut r = made(h);
+    r.bridge.core.ticks = word_at(h.bytes, 176);
+    r.bridge.core.session = word_at(h.more, WINDOW);
     r
 }

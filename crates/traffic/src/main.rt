@@ -6,139 +6,64 @@ mod made;
 
 use made::first_bridge;
 use std::io::Read;
-use traffic_events::{Player, first_player, play_event};
-use traffic_file::reading::{Entry, Place};
-use traffic_file::{header, record};
+use traffic_events::{Lent, Player};
+use traffic_file::header::{HEADER, Header, MORE};
+use traffic_file::reading::Stop;
+use traffic_file::record::{AREA, FIELDS, STORE};
 use traffic_headers::play_header;
+use traffic_text::input::Input;
+use traffic_text::line::print;
 use traffic_text::sum::{fill, sum_of};
 
-// The state between two records.
-#[derive(Clone, Copy)]
-struct State {
-    player: Player,
-    place: Place,
-    going: bool,
-}
-
-// A record, with its fixed fields and, at the front of a buffer, its variable bytes.
-fn play_record(
-    rt: &(impl Print + Eprint),
-    p: Player,
-    event: u64,
-    e: Entry,
-    f: &[u8],
-    bytes: &[u8],
-    store: &mut [u8],
-    area: &mut [u8],
-) -> Player {
-    let n = e.length;
-    if bytes.len() < n {
-        return p;
-    }
-    if record::is_header(e.kind) {
-        let mut q = p;
-        q.written = play_header(rt, event, e.kind, f, &bytes[0..n], area);
-        return q;
-    }
-    play_event(rt, p, event, e.kind, f, &bytes[0..n], store, area)
-}
-
-// The next record, played.
-fn turn(
-    input: &mut impl Read,
-    rt: &(impl Print + Eprint),
-    s: State,
+// All records, at most 2^64 - 1, with a buffer for the variable bytes of one.
+fn play<R: Read, E: Print + Eprint>(
+    input: &mut Input<R, E>,
+    h: Header,
+    lent: &mut Lent,
     bytes: &mut [u8],
-    store: &mut [u8],
-    area: &mut [u8],
-) -> State {
-    let mut f = [0u8; record::FIELDS];
-    let p = s.player;
-    let place = s.place;
-    let e = place.read(input, rt, &mut f, bytes, store.len());
-    if e.kind == 0 {
-        return State {
-            player: p,
-            place: place,
-            going: false,
-        };
-    }
-    let next = play_record(rt, p, place.events, e, &f, bytes, store, area);
-    State {
-        player: next,
-        place: place.past(e),
-        going: next.written,
-    }
-}
-
-// All records, at most 2^64 - 1.
-fn play(
-    input: &mut impl Read,
-    rt: &(impl Print + Eprint),
-    first: State,
-    bytes: &mut [u8],
-    store: &mut [u8],
-    area: &mut [u8],
-) {
-    let mut s = first;
-    let mut left = 18446744073709551615u64;
-    while 0 < left {
-        if !s.going {
-            return;
+) -> Result<(), Stop> {
+    let rt = input.rt;
+    fill(lent.store, 251);
+    fill(lent.area, 241);
+    let mut player = Player::begin(rt, first_bridge(h), sum_of(lent.store))?;
+    let mut place = h.start();
+    for _ in 0..u64::MAX {
+        let mut f = [0u8; FIELDS];
+        let record = place.read(input, &mut f, bytes, lent.store.len())?;
+        if record.kind.is_header() {
+            play_header(rt, place.events, record, lent.area)?;
+        } else {
+            player.play(rt, place.events, record, lent)?;
         }
-        let next = turn(input, rt, s, bytes, store, area);
-        s = next;
-        left -= 1;
+        place = place.past(record);
     }
-}
-
-// Before the first record, after the log's first line.
-fn first_state(rt: &(impl Print + Eprint), h: &[u8], more: &[u8], sum: u32) -> State {
-    let p = first_player(rt, first_bridge(h, more), sum);
-    State {
-        player: p,
-        place: header::start(h),
-        going: p.written,
-    }
-}
-
-fn begin(
-    input: &mut impl Read,
-    rt: &(impl Print + Eprint),
-    h: &[u8],
-    more: &[u8],
-    bytes: &mut [u8],
-    store: &mut [u8],
-    area: &mut [u8],
-) {
-    fill(store, 251);
-    fill(area, 241);
-    play(
-        input,
-        rt,
-        first_state(rt, h, more, sum_of(store)),
-        bytes,
-        store,
-        area,
-    );
+    Ok(())
 }
 
 // With the part of the store that the header asks for.
-fn lend(input: &mut impl Read, rt: &(impl Print + Eprint), h: &[u8], more: &[u8]) {
-    let mut bytes = [0u8; record::AREA];
-    let mut area = [0u8; record::AREA];
-    let mut store = [0u8; record::STORE];
-    let n = header::store_size(h);
-    if n <= record::STORE {
-        begin(input, rt, h, more, &mut bytes, &mut store[0..n], &mut area);
-    }
+fn run<R: Read, E: Print + Eprint>(input: &mut Input<R, E>) -> Result<(), Stop> {
+    let mut header = [0u8; HEADER];
+    let mut more = [0u8; MORE];
+    let h = Header::read(input, &mut header, &mut more)?;
+    let mut bytes = [0u8; AREA];
+    let mut area = [0u8; AREA];
+    let mut store = [0u8; STORE];
+    let Some(store) = store.get_mut(..h.store_size()) else {
+        return Ok(());
+    };
+    let mut lent = Lent {
+        store,
+        area: &mut area,
+    };
+    play(input, h, &mut lent, &mut bytes)
 }
 
 fn main(rt: HostRuntime) {
-    let mut h = [0u8; header::HEADER];
-    let mut more = [0u8; header::MORE];
-    let mut input = rt.stdin();
-    if header::read_header(&mut input, &rt, &mut h, &mut more) {
-        lend(&mut input, &rt, &h, &more);
+    let mut input = Input {
+        reader: rt.stdin(),
+        rt: &rt,
+    };
+    if let Err(Stop::Done(last)) = run(&mut input) {
+        let _ = print(&rt, last);
     }
 }

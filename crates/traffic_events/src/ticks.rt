@@ -4,28 +4,19 @@ use events::tick::ticks_in;
 
 // The bridge is unpacked once for all of them; the answer is that of the last.
 pub fn ticks(b: Bridge, store: &mut [u8], times: u32) -> Answered {
-    let settings = b.settings;
-    let core = b.core;
-    let mut missing = b.missing;
-    let tags = b.tags;
-    let mut slots = b.slots;
+    let mut next = b;
     let r = ticks_in(
-        settings.limit,
-        core,
-        &mut missing,
-        &tags,
-        &mut slots,
+        b.settings.limit,
+        b.core,
+        &mut next.missing,
+        &b.tags,
+        &mut next.slots,
         store,
         times,
     );
-    let after = r.core;
-    let answer = r.answer;
-    let mut c = b;
-    c.core = after;
-    c.missing = missing;
-    c.slots = slots;
+    next.core = r.core;
     Answered {
-        bridge: c,
-        answer: answer,
+        bridge: next,
+        answer: r.answer,
     }
 }

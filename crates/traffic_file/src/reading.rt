@@ -1,15 +1,78 @@
 // Reading the records of a file in order.
 ghost use Rattle.std.specs.Prelude.{◌≡◌};
 
-use crate::record;
-use common::wide;
+use crate::record::{Kind, Record, TICKS};
+use std::fmt;
 use std::io::Read;
-use streams::Fetched;
-use traffic_text::input::{fetch, word_at};
-use traffic_text::line::{ROOM, print, put_all, put_decimal, token};
+use streams::{Unfilled, WriteFailed};
+use traffic_text::input::{Input, word_at};
+
+// A part of a file.
+#[derive(Clone, Copy, Debug, PartialEq, Eq)]
+pub enum Part {
+    Header,
+    // The record of an event after so many others.
+    Event(u64),
+    // The end record.
+    End,
+}
+
+impl fmt::Display for Part {
+    fn fmt<W: fmt::Write>(&self, f: &mut fmt::Formatter<W>) -> fmt::Result {
+        match self {
+            Part::Header => write!(f, "header"),
+            Part::Event(events) => write!(f, "event {events}"),
+            Part::End => write!(f, "end"),
+        }
+    }
+}
+
+// The last line of a log.
+#[derive(Clone, Copy, Debug, PartialEq, Eq)]
+pub enum Last {
+    // The file ends with a right end record after so many events.
+    End(u64),
+    // It ends in the part that begins at an offset.
+    Cut(Part, u64),
+    // That part is damaged.
+    Damaged(Part, u64),
+}
+
+impl fmt::Display for Last {
+    fn fmt<W: fmt::Write>(&self, f: &mut fmt::Formatter<W>) -> fmt::Result {
+        match self {
+            Last::End(events) => write!(f, "end {events}"),
+            Last::Cut(part, at) => write!(f, "cut {part} at {at}"),
+            Last::Damaged(part, at) => write!(f, "damaged {part} at {at}"),
+        }
+    }
+}
+
+// Why nothing more is played: a read or a write failed, as is said on standard error, or the log's last line is due.
+#[derive(Clone, Copy, Debug, PartialEq, Eq)]
+pub enum Stop {
+    Failed,
+    Done(Last),
+}
+
+impl From<WriteFailed> for Stop {
+    fn from(_e: WriteFailed) -> Stop {
+        Stop::Failed
+    }
+}
+
+impl Stop {
+    // The rest of a part that begins at an offset did not come: the file is cut there, unless the read failed.
+    pub fn missed(e: Unfilled, part: Part, at: u64) -> Stop {
+        match e {
+            Unfilled::Ended => Stop::Done(Last::Cut(part, at)),
+            Unfilled::Failed => Stop::Failed,
+        }
+    }
+}
 
 // Where the next record begins.
-#[derive(Clone, Copy)]
+#[derive(Clone, Copy, Debug, PartialEq, Eq)]
 pub struct Place {
     // The events before it.
     pub events: u64,
@@ -19,179 +82,89 @@ pub struct Place {
     pub ticks: u64,
 }
 
-// The kind of a record, 0 where there is none to play, the number of its variable bytes, and the ticks that it asks for.
-#[derive(Clone, Copy)]
-pub struct Entry {
-    pub kind: u32,
-    pub length: usize,
-    pub ticks: u32,
-}
-
-// Where the first record begins.
-pub fn first_place(at: u64) -> Place
-    ensures { (result.events ≡ 0) × (result.at ≡ at) × (result.ticks ≡ 0) }
-{
-    Place {
-        events: 0,
-        at: at,
-        ticks: 0,
-    }
-}
-
-// The name of the record that begins here.
-fn put_name(line: &mut [u8; ROOM], at: usize, events: u64, end: bool) -> usize {
-    if end {
-        return token(line, at, b"end");
-    }
-    let name = token(line, at, b"event ");
-    put_decimal(line, name, events)
-}
-
-// Nothing to play: the last line is printed, or there is none since a read failed.
-fn none() -> Entry {
-    Entry {
-        kind: 0,
-        length: 0,
-        ticks: 0,
-    }
-}
-
 impl Place {
+    // Where the first record begins.
+    pub fn first(at: u64) -> Place
+        ensures { (result.events ≡ 0) × (result.at ≡ at) × (result.ticks ≡ 0) }
+    {
+        Place {
+            events: 0,
+            at,
+            ticks: 0,
+        }
+    }
+
     // After a record.
-    pub fn past(self, e: Entry) -> Place {
-        let fixed = record::fixed_size(e.kind) as u64;
-        let fields = self.at.wrapping_add(1).wrapping_add(fixed);
+    pub fn past(self, record: Record) -> Place {
+        let fields = self
+            .at
+            .wrapping_add(1)
+            .wrapping_add(record.kind.fixed_size() as u64);
         Place {
             events: self.events.wrapping_add(1),
-            at: fields.wrapping_add(e.length as u64),
-            ticks: self.ticks_with(e.ticks),
+            at: fields.wrapping_add(record.bytes.len() as u64),
+            ticks: self.ticks_with(record),
         }
     }
 
     // The ticks asked for, with those of one more record.
-    fn ticks_with(self, ticks: u32) -> u64 {
-        self.ticks.wrapping_add(ticks as u64)
+    fn ticks_with(self, record: Record) -> u64 {
+        self.ticks.wrapping_add(u64::from(record.ticks()))
     }
 
-    // The file is cut or damaged at the record that begins here.
-    fn fault(self, rt: &(impl Print + Eprint), what: &[u8], end: bool) -> Entry {
-        let mut line = [0u8; ROOM];
-        let said = put_all(&mut line, 0, what);
-        let name = put_name(&mut line, said, self.events, end);
-        let place = token(&mut line, name, b"at ");
-        let last = put_decimal(&mut line, place, self.at);
-        print(rt, &mut line, last);
-        none()
-    }
-
-    fn cut(self, rt: &(impl Print + Eprint), end: bool) -> Entry {
-        self.fault(rt, b"cut", end)
-    }
-
-    fn damaged(self, rt: &(impl Print + Eprint), end: bool) -> Entry {
-        self.fault(rt, b"damaged", end)
-    }
-
-    // The line after a right end record.
-    fn say_end(self, rt: &(impl Print + Eprint)) -> Entry {
-        let mut line = [0u8; ROOM];
-        let name = put_all(&mut line, 0, b"end ");
-        let last = put_decimal(&mut line, name, self.events);
-        print(rt, &mut line, last);
-        none()
+    fn damaged(self, part: Part) -> Stop {
+        Stop::Done(Last::Damaged(part, self.at))
     }
 
     // The end record: its number is that of the events, and nothing follows.
-    fn finish(self, input: &mut impl Read, rt: &(impl Print + Eprint), f: &[u8]) -> Entry {
+    fn finish<R: Read, E: Eprint>(self, input: &mut Input<R, E>, f: &[u8]) -> Stop {
         let mut more = [0u8; 1];
-        if (word_at(f, 0) as u64) != self.events {
-            return self.damaged(rt, true);
+        if u64::from(word_at(f, 0)) != self.events {
+            return self.damaged(Part::End);
         }
-        match fetch(input, rt, &mut more, 1) {
-            Fetched::All => self.damaged(rt, true),
-            Fetched::Ended => self.say_end(rt),
-            Fetched::Failed => none(),
-        }
-    }
-
-    // The variable bytes of a record whose fixed fields are right.
-    fn read_bytes(
-        self,
-        input: &mut impl Read,
-        rt: &(impl Print + Eprint),
-        kind: u32,
-        f: &[u8],
-        bytes: &mut [u8],
-    ) -> Entry {
-        let length = record::variable_size(kind, f);
-        match fetch(input, rt, bytes, length) {
-            Fetched::All => Entry {
-                kind: kind,
-                length: length,
-                ticks: record::ticks(kind, f),
-            },
-            Fetched::Ended => self.cut(rt, false),
-            Fetched::Failed => none(),
-        }
-    }
-
-    // The rest of a record whose kind and fixed fields are read.
-    fn read_rest(
-        self,
-        input: &mut impl Read,
-        rt: &(impl Print + Eprint),
-        kind: u32,
-        f: &[u8],
-        bytes: &mut [u8],
-        most: usize,
-    ) -> Entry {
-        if kind == record::END {
-            return self.finish(input, rt, f);
-        }
-        if record::is_wrong(kind, f, most) {
-            return self.damaged(rt, false);
-        }
-        if record::TICKS < self.ticks_with(record::ticks(kind, f)) {
-            return self.damaged(rt, false);
-        }
-        self.read_bytes(input, rt, kind, f, bytes)
-    }
-
-    // The fixed fields of a record of this kind, and the rest.
-    fn read_fields(
-        self,
-        input: &mut impl Read,
-        rt: &(impl Print + Eprint),
-        kind: u32,
-        f: &mut [u8],
-        bytes: &mut [u8],
-        most: usize,
-    ) -> Entry {
-        let n = record::fixed_size(kind);
-        if n == 0 {
-            return self.damaged(rt, false);
-        }
-        match fetch(input, rt, f, n) {
-            Fetched::All => self.read_rest(input, rt, kind, f, bytes, most),
-            Fetched::Ended => self.cut(rt, kind == record::END),
-            Fetched::Failed => none(),
+        match input.fetch(&mut more, 1) {
+            Ok(()) => self.damaged(Part::End),
+            Err(Unfilled::Ended) => Stop::Done(Last::End(self.events)),
+            Err(Unfilled::Failed) => Stop::Failed,
         }
     }
 
     // The record that begins here: its fixed fields to f, its variable bytes to bytes. The file's store has so many bytes.
-    pub fn read(
+    pub fn read<'a, R: Read, E: Eprint>(
         self,
-        input: &mut impl Read,
-        rt: &(impl Print + Eprint),
-        f: &mut [u8],
-        bytes: &mut [u8],
+        input: &mut Input<R, E>,
+        f: &'a mut [u8],
+        bytes: &'a mut [u8],
         most: usize,
-    ) -> Entry {
+    ) -> Result<Record<'a>, Stop> {
+        let event = Part::Event(self.events);
         let mut first = [0u8; 1];
-        match fetch(input, rt, &mut first, 1) {
-            Fetched::All => self.read_fields(input, rt, wide(first[0]), f, bytes, most),
-            Fetched::Ended => self.cut(rt, false),
-            Fetched::Failed => none(),
+        input
+            .fetch(&mut first, 1)
+            .map_err(|e| Stop::missed(e, event, self.at))?;
+        let kind = Kind::try_from(first[0]).map_err(|_| self.damaged(event))?;
+        let part = if kind == Kind::End { Part::End } else { event };
+        input
+            .fetch(f, kind.fixed_size())
+            .map_err(|e| Stop::missed(e, part, self.at))?;
+        if kind == Kind::End {
+            return Err(self.finish(input, f));
         }
+        let begun = Record {
+            kind,
+            fields: f,
+            bytes: &[],
+        };
+        if begun.is_wrong(most) || TICKS < self.ticks_with(begun) {
+            return Err(self.damaged(event));
+        }
+        let length = begun.variable_size();
+        input
+            .fetch(bytes, length)
+            .map_err(|e| Stop::missed(e, event, self.at))?;
+        Ok(Record {
+            bytes: &bytes[..length],
+            ..begun
+        })
     }
 }

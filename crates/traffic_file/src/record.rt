@@ -1,37 +1,10 @@
 // Records: how long their parts are, and which fields are wrong.
-ghost use Rattle.std.specs.Prelude.{◌≡◌};
+ghost use Rattle.std.specs.Prelude.{◌≡◌, MatchResult};
+ghost use Rattle.traffic_file.specs.Kinds.{number_of};
 ghost use Rattle.traffic_file.specs.Records.{fixed_size, variable_size, ticks_of, lends_area, lends_store, is_header, lent_wrong, rest_wrong, is_wrong};
 
-use common::index;
+use std::fmt;
 use traffic_text::input::{byte_at, word_at};
-
-pub const READ: u32 = 1;
-
-pub const WRITE: u32 = 2;
-
-pub const CONFIG: u32 = 3;
-
-pub const COMPLETION: u32 = 4;
-
-pub const TICK: u32 = 5;
-
-pub const LINK: u32 = 6;
-
-pub const LOOK: u32 = 7;
-
-pub const RELEASE: u32 = 8;
-
-pub const REQUEST_WRITER: u32 = 9;
-
-pub const REQUEST_READER: u32 = 10;
-
-pub const COMPLETION_WRITER: u32 = 11;
-
-pub const COMPLETION_READER: u32 = 12;
-
-pub const MESSAGE: u32 = 13;
-
-pub const END: u32 = 255;
 
 // The most bytes of fixed fields.
 pub const FIELDS: usize = 54;
@@ -44,121 +17,201 @@ pub const STORE: usize = 40960;
 // The most ticks that a file may ask for, which bounds the time to play it.
 pub const TICKS: u64 = 67108864;
 
-// The bytes of the fixed fields after the kind byte, 0 for what is no kind.
-#[tactic(auto, unfolding(crate::specs::Records::fixed_size))]
-pub fn fixed_size(kind: u32) -> usize
-    ensures { result ≡ fixed_size kind }
-{
-    match kind {
-        READ => 24,
-        WRITE => 28,
-        CONFIG => 21,
-        COMPLETION => 8,
-        TICK => 8,
-        LINK => 5,
-        LOOK => 8,
-        RELEASE => 8,
-        REQUEST_WRITER => 54,
-        REQUEST_READER => 4,
-        COMPLETION_WRITER => 34,
-        COMPLETION_READER => 4,
-        MESSAGE => 4,
-        END => 4,
-        _ => 0,
+#[derive(Clone, Copy, Debug, PartialEq, Eq)]
+pub enum Kind {
+    Read,
+    Write,
+    Config,
+    Completion,
+    Tick,
+    Link,
+    Look,
+    Release,
+    RequestWriter,
+    RequestReader,
+    CompletionWriter,
+    CompletionReader,
+    Message,
+    End,
+}
+
+// What a kind byte is that no kind has.
+#[derive(Clone, Copy, Debug, PartialEq, Eq)]
+pub struct NoKind;
+
+// By the kind byte.
+impl TryFrom<u8> for Kind {
+    type Error = NoKind;
+
+    ghost try_from_gives = { λ n r. MatchResult r (λ kind. number_of kind ≡ n) (λ _. fixed_size n ≡ 0) };
+
+    #[tactic(auto, unfolding(crate::specs::Records::fixed_size))]
+    fn try_from(n: u8) -> Result<Kind, NoKind> {
+        match n {
+            1 => Ok(Kind::Read),
+            2 => Ok(Kind::Write),
+            3 => Ok(Kind::Config),
+            4 => Ok(Kind::Completion),
+            5 => Ok(Kind::Tick),
+            6 => Ok(Kind::Link),
+            7 => Ok(Kind::Look),
+            8 => Ok(Kind::Release),
+            9 => Ok(Kind::RequestWriter),
+            10 => Ok(Kind::RequestReader),
+            11 => Ok(Kind::CompletionWriter),
+            12 => Ok(Kind::CompletionReader),
+            13 => Ok(Kind::Message),
+            255 => Ok(Kind::End),
+            _ => Err(NoKind),
+        }
     }
 }
 
-// How many variable bytes follow the fixed fields.
-#[tactic(auto, unfolding(crate::specs::Records::variable_size))]
-pub fn variable_size(kind: u32, f: &[u8]) -> usize
-    ensures { result ≡ variable_size kind f.now }
-{
-    match kind {
-        WRITE => index(word_at(f, 24)),
-        COMPLETION => index(word_at(f, 4)),
-        REQUEST_READER => index(word_at(f, 0)),
-        COMPLETION_READER => index(word_at(f, 0)),
-        MESSAGE => index(word_at(f, 0)),
-        _ => 0,
+// The name in the log.
+impl fmt::Display for Kind {
+    fn fmt<W: fmt::Write>(&self, f: &mut fmt::Formatter<W>) -> fmt::Result {
+        f.write_str(match self {
+            Kind::Read => "read",
+            Kind::Write => "write",
+            Kind::Config => "config",
+            Kind::Completion => "completion",
+            Kind::Tick => "tick",
+            Kind::Link => "link",
+            Kind::Look => "look",
+            Kind::Release => "release",
+            Kind::RequestWriter => "request-writer",
+            Kind::RequestReader => "request-reader",
+            Kind::CompletionWriter => "completion-writer",
+            Kind::CompletionReader => "completion-reader",
+            Kind::Message => "message",
+            Kind::End => "end",
+        })
     }
 }
 
-// The ticks that a record asks for.
-pub fn ticks(kind: u32, f: &[u8]) -> u32
-    ensures { result ≡ ticks_of kind f.now }
-{
-    if kind == TICK {
-        return word_at(f, 4);
+impl Kind {
+    // The bytes of the fixed fields after the kind byte.
+    #[tactic(auto, unfolding(crate::specs::Records::fixed_size))]
+    pub fn fixed_size(self) -> usize
+        ensures { result ≡ fixed_size (number_of self) }
+    {
+        match self {
+            Kind::Read => 24,
+            Kind::Write => 28,
+            Kind::Config => 21,
+            Kind::Completion => 8,
+            Kind::Tick => 8,
+            Kind::Link => 5,
+            Kind::Look => 8,
+            Kind::Release => 8,
+            Kind::RequestWriter => 54,
+            Kind::RequestReader => 4,
+            Kind::CompletionWriter => 34,
+            Kind::CompletionReader => 4,
+            Kind::Message => 4,
+            Kind::End => 4,
+        }
     }
-    0
-}
 
-#[tactic(auto, unfolding(crate::specs::Records::lends_area))]
-pub fn lends_area(kind: u32) -> bool
-    ensures { result ≡ lends_area kind }
-{
-    match kind {
-        READ => true,
-        WRITE => true,
-        CONFIG => true,
-        REQUEST_WRITER => true,
-        COMPLETION_WRITER => true,
-        _ => false,
+    #[tactic(auto, unfolding(crate::specs::Records::lends_area))]
+    pub fn lends_area(self) -> bool
+        ensures { result ≡ lends_area (number_of self) }
+    {
+        matches!(
+            self,
+            Kind::Read | Kind::Write | Kind::Config | Kind::RequestWriter | Kind::CompletionWriter
+        )
     }
-}
 
-fn lends_store(kind: u32) -> bool
-    ensures { result ≡ lends_store kind }
-{
-    (COMPLETION <= kind) & (kind <= RELEASE)
-}
-
-// Whether a header writer or reader plays it, without the bridge.
-pub fn is_header(kind: u32) -> bool
-    ensures { result ≡ is_header kind }
-{
-    (REQUEST_WRITER <= kind) & (kind <= COMPLETION_READER)
-}
-
-// The length of what is lent, at most `most`.
-#[tactic(auto, unfolding(crate::specs::Records::lent_wrong))]
-fn lent_wrong(kind: u32, f: &[u8], most: usize) -> bool
-    ensures { result ≡ lent_wrong kind f.now most }
-{
-    let n = index(word_at(f, 0));
-    if lends_area(kind) {
-        return AREA < n;
+    fn lends_store(self) -> bool
+        ensures { result ≡ lends_store (number_of self) }
+    {
+        matches!(
+            self,
+            Kind::Completion | Kind::Tick | Kind::Link | Kind::Look | Kind::Release
+        )
     }
-    if lends_store(kind) {
-        return most < n;
-    }
-    false
-}
 
-// Flags are 0 or 1, targets at most 2, and a tick is repeated 1 to 131,072 times.
-#[tactic(auto, unfolding(crate::specs::Records::rest_wrong))]
-fn rest_wrong(kind: u32, f: &[u8]) -> bool
-    ensures { result ≡ rest_wrong kind f.now }
-{
-    match kind {
-        CONFIG => 1 < byte_at(f, 12),
-        TICK => (word_at(f, 4) == 0) | (131072 < word_at(f, 4)),
-        LINK => 1 < byte_at(f, 4),
-        REQUEST_WRITER => (1 < byte_at(f, 4)) | (2 < byte_at(f, 5)),
-        COMPLETION_WRITER => (1 < byte_at(f, 4)) | (1 < byte_at(f, 5)),
-        _ => false,
+    // Whether a header writer or reader plays it, without the bridge.
+    pub fn is_header(self) -> bool
+        ensures { result ≡ is_header (number_of self) }
+    {
+        matches!(
+            self,
+            Kind::RequestWriter
+                | Kind::RequestReader
+                | Kind::CompletionWriter
+                | Kind::CompletionReader
+        )
     }
 }
 
-#[tactic(auto, unfolding(crate::specs::Records::is_wrong))]
-pub fn is_wrong(kind: u32, f: &[u8], most: usize) -> bool
-    ensures { result ≡ is_wrong kind f.now most }
-{
-    if AREA < variable_size(kind, f) {
-        return true;
+// A record; no variable bytes until they are read.
+#[derive(Clone, Copy)]
+pub struct Record<'a> {
+    pub kind: Kind,
+    pub fields: &'a [u8],
+    pub bytes: &'a [u8],
+}
+
+impl Record<'_> {
+    // How many variable bytes follow the fixed fields.
+    #[tactic(auto, unfolding(crate::specs::Records::variable_size))]
+    pub fn variable_size(self) -> usize
+        ensures { result ≡ variable_size (number_of self.entry.kind) self.entry.fields.now }
+    {
+        match self.kind {
+            Kind::Write => word_at(self.fields, 24) as usize,
+            Kind::Completion => word_at(self.fields, 4) as usize,
+            Kind::RequestReader | Kind::CompletionReader | Kind::Message => {
+                word_at(self.fields, 0) as usize
+            }
+            _ => 0,
+        }
     }
-    if lent_wrong(kind, f, most) {
-        return true;
+
+    // The ticks that a record asks for.
+    pub fn ticks(self) -> u32
+        ensures { result ≡ ticks_of (number_of self.entry.kind) self.entry.fields.now }
+    {
+        if self.kind == Kind::Tick {
+            return word_at(self.fields, 4);
+        }
+        0
     }
-    rest_wrong(kind, f)
+
+    // The length of what is lent, at most `most`.
+    #[tactic(auto, unfolding(crate::specs::Records::lent_wrong))]
+    fn lent_wrong(self, most: usize) -> bool
+        ensures { result ≡ lent_wrong (number_of self.entry.kind) self.entry.fields.now most }
+    {
+        let n = word_at(self.fields, 0) as usize;
+        if self.kind.lends_area() {
+            return AREA < n;
+        }
+        self.kind.lends_store() && most < n
+    }
+
+    // Flags are 0 or 1, targets at most 2, and a tick is repeated 1 to 131,072 times.
+    #[tactic(auto, unfolding(crate::specs::Records::rest_wrong))]
+    fn rest_wrong(self) -> bool
+        ensures { result ≡ rest_wrong (number_of self.entry.kind) self.entry.fields.now }
+    {
+        let f = self.fields;
+        match self.kind {
+            Kind::Config => 1 < byte_at(f, 12),
+            Kind::Tick => (word_at(f, 4) == 0) | (131072 < word_at(f, 4)),
+            Kind::Link => 1 < byte_at(f, 4),
+            Kind::RequestWriter => (1 < byte_at(f, 4)) | (2 < byte_at(f, 5)),
+            Kind::CompletionWriter => (1 < byte_at(f, 4)) | (1 < byte_at(f, 5)),
+            _ => false,
+        }
+    }
+
+    #[tactic(auto, unfolding(crate::specs::Records::is_wrong))]
+    pub fn is_wrong(self, most: usize) -> bool
+        ensures { result ≡ is_wrong (number_of self.entry.kind) self.entry.fields.now most }
+    {
+        AREA < self.variable_size() || self.lent_wrong(most) || self.rest_wrong()
+    }
 }

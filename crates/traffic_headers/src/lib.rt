@@ -1,14 +1,14 @@
-// Header writers and readers: each plays one record, without the bridge, and prints its line. The result says whether the
-// line was written.
+// Header writers and readers: each plays one record, without the bridge, and prints its line.
 #![tactic(auto)]
 
-use common::index;
+use std::fmt;
+use streams::WriteFailed;
 use tlp::Written;
 use tlp::completion::{Completion, CompletionRead, read_completion, write_completion};
 use tlp::request::{ConfigAddress, Request, RequestRead, Target, read_request, write_request};
-use traffic_file::record;
+use traffic_file::record::{Kind, Record};
 use traffic_text::input::{byte_at, flag_at, long_at, word_at};
-use traffic_text::line::{ROOM, begin, flag, named, number, print, put, put_area, put_hex, token};
+use traffic_text::line::{Area, print};
 
 fn config_in(f: &[u8]) -> ConfigAddress {
     ConfigAddress {
@@ -21,14 +21,11 @@ fn config_in(f: &[u8]) -> ConfigAddress {
 }
 
 fn target_in(f: &[u8]) -> Target {
-    let kind = byte_at(f, 5);
-    if kind == 0 {
-        return Target::Memory(long_at(f, 6));
+    match byte_at(f, 5) {
+        0 => Target::Memory(long_at(f, 6)),
+        1 => Target::Config0(config_in(f)),
+        _ => Target::Config1(config_in(f)),
     }
-    if kind == 1 {
-        return Target::Config0(config_in(f));
-    }
-    Target::Config1(config_in(f))
 }
 
 fn request_in(f: &[u8]) -> Request {
@@ -57,156 +54,130 @@ fn completion_in(f: &[u8]) -> Completion {
     }
 }
 
-fn say_written(rt: &(impl Print + Eprint), event: u64, kind: u32, w: Written, area: &[u8]) -> bool {
-    let mut line = [0u8; ROOM];
-    let name = begin(&mut line, event, kind);
-    let numbered = number(&mut line, name, w.number);
-    let sent = named(&mut line, numbered, b"sent", w.length as u64);
-    let end = put_area(&mut line, sent, area);
-    print(rt, &mut line, end)
-}
+// A value of a header, as the log shows it.
+#[derive(Clone, Copy)]
+struct Shown<T: Copy>(T);
 
-fn play_request_writer(rt: &(impl Print + Eprint), event: u64, f: &[u8], area: &mut [u8]) -> bool {
-    let w = write_request(request_in(f), area);
-    say_written(rt, event, record::REQUEST_WRITER, w, area)
-}
-
-fn play_completion_writer(
-    rt: &(impl Print + Eprint),
-    event: u64,
-    f: &[u8],
-    area: &mut [u8],
-) -> bool {
-    let w = write_completion(completion_in(f), area);
-    say_written(rt, event, record::COMPLETION_WRITER, w, area)
-}
-
-fn put_place(line: &mut [u8; ROOM], at: usize, c: ConfigAddress) -> usize {
-    let bus = number(line, at, c.bus);
-    let device = number(line, bus, c.device);
-    let function = number(line, device, c.function);
-    let extended = number(line, function, c.extended);
-    number(line, extended, c.register)
+impl fmt::Display for Shown<ConfigAddress> {
+    fn fmt<W: fmt::Write>(&self, f: &mut fmt::Formatter<W>) -> fmt::Result {
+        let c = self.0;
+        write!(
+            f,
+            "{} {} {} {} {}",
+            c.bus, c.device, c.function, c.extended, c.register
+        )
+    }
 }
 
 // A target's number, its address and its place. Fields that it does not have are 0.
-fn put_target(
-    line: &mut [u8; ROOM],
-    at: usize,
-    kind: u32,
-    address: u64,
-    c: ConfigAddress,
-) -> usize {
-    let numbered = number(line, at, kind);
-    let space = put(line, numbered, b' ');
-    let located = put_hex(line, space, address, 16);
-    put_place(line, located, c)
-}
-
-fn put_target_of(line: &mut [u8; ROOM], at: usize, t: Target) -> usize {
-    let nowhere = ConfigAddress {
-        bus: 0,
-        device: 0,
-        function: 0,
-        extended: 0,
-        register: 0,
-    };
-    match t {
-        Target::Memory(a) => put_target(line, at, 0, a, nowhere),
-        Target::Config0(c) => put_target(line, at, 1, 0, c),
-        Target::Config1(c) => put_target(line, at, 2, 0, c),
+impl fmt::Display for Shown<Target> {
+    fn fmt<W: fmt::Write>(&self, f: &mut fmt::Formatter<W>) -> fmt::Result {
+        match self.0 {
+            Target::Memory(a) => write!(f, "0 {a:016x} 0 0 0 0 0"),
+            Target::Config0(c) => write!(f, "1 {:016x} {}", 0, Shown(c)),
+            Target::Config1(c) => write!(f, "2 {:016x} {}", 0, Shown(c)),
+        }
     }
 }
 
-fn put_request(line: &mut [u8; ROOM], at: usize, q: Request) -> usize {
-    let t = q.target;
-    let name = token(line, at, b"fields");
-    let write = flag(line, name, q.write);
-    let target = put_target_of(line, write, t);
-    let length = number(line, target, q.length);
-    let requester = number(line, length, q.requester);
-    let tag = number(line, requester, q.tag);
-    let last = number(line, tag, q.last);
-    number(line, last, q.first)
-}
-
-fn put_request_read(line: &mut [u8; ROOM], at: usize, r: RequestRead) -> usize {
-    match r {
-        RequestRead::Header(q) => put_request(line, at, q),
-        RequestRead::Malformed => at,
+impl fmt::Display for Shown<Request> {
+    fn fmt<W: fmt::Write>(&self, f: &mut fmt::Formatter<W>) -> fmt::Result {
+        let q = self.0;
+        let write = u32::from(q.write);
+        let target = Shown(q.target);
+        write!(
+            f,
+            "{write} {target} {} {} {} {} {}",
+            q.length, q.requester, q.tag, q.last, q.first
+        )
     }
 }
 
-fn play_request_reader(rt: &(impl Print + Eprint), event: u64, bytes: &[u8]) -> bool {
-    let mut line = [0u8; ROOM];
-    let r = read_request(bytes);
-    let name = begin(&mut line, event, record::REQUEST_READER);
-    let numbered = number(&mut line, name, r.number());
-    let end = put_request_read(&mut line, numbered, r);
-    print(rt, &mut line, end)
-}
-
-fn put_completion(line: &mut [u8; ROOM], at: usize, c: Completion) -> usize {
-    let name = token(line, at, b"fields");
-    let payload = flag(line, name, c.payload);
-    let poisoned = flag(line, payload, c.poisoned);
-    let length = number(line, poisoned, c.length);
-    let completer = number(line, length, c.completer);
-    let status = number(line, completer, c.status);
-    let counted = number(line, status, c.count);
-    let requester = number(line, counted, c.requester);
-    let tag = number(line, requester, c.tag);
-    number(line, tag, c.lower)
-}
-
-fn put_completion_read(line: &mut [u8; ROOM], at: usize, r: CompletionRead) -> usize {
-    match r {
-        CompletionRead::Header(c) => put_completion(line, at, c),
-        CompletionRead::Malformed => at,
+impl fmt::Display for Shown<Completion> {
+    fn fmt<W: fmt::Write>(&self, f: &mut fmt::Formatter<W>) -> fmt::Result {
+        let c = self.0;
+        let payload = u32::from(c.payload);
+        let poisoned = u32::from(c.poisoned);
+        write!(
+            f,
+            "{payload} {poisoned} {} {} {} {} {} {} {}",
+            c.length, c.completer, c.status, c.count, c.requester, c.tag, c.lower
+        )
     }
 }
 
-fn play_completion_reader(rt: &(impl Print + Eprint), event: u64, bytes: &[u8]) -> bool {
-    let mut line = [0u8; ROOM];
-    let r = read_completion(bytes);
-    let name = begin(&mut line, event, record::COMPLETION_READER);
-    let numbered = number(&mut line, name, r.number());
-    let end = put_completion_read(&mut line, numbered, r);
-    print(rt, &mut line, end)
-}
-
-// A header writer, with the first n bytes of the area.
-fn play_writer(
+// What a writer answered, with the area that it was lent.
+fn say_written(
     rt: &(impl Print + Eprint),
     event: u64,
-    kind: u32,
-    f: &[u8],
-    area: &mut [u8],
-    n: usize,
-) -> bool {
-    if area.len() < n {
-        return true;
-    }
-    if kind == record::REQUEST_WRITER {
-        return play_request_writer(rt, event, f, &mut area[0..n]);
-    }
-    play_completion_writer(rt, event, f, &mut area[0..n])
+    kind: Kind,
+    w: Written,
+    area: &[u8],
+) -> Result<(), WriteFailed> {
+    let area = Area(area);
+    print(
+        rt,
+        format_args!("{event} {kind} {} sent {} {area}", w.number, w.length),
+    )
 }
 
-// A record of a header writer or reader, with its fixed fields and its variable bytes.
+// What a reader found: the header's fields, or the number of its refusal.
+fn say_read<T>(
+    rt: &(impl Print + Eprint),
+    event: u64,
+    kind: Kind,
+    found: Result<T, u32>,
+) -> Result<(), WriteFailed>
+where
+    T: Copy,
+    Shown<T>: fmt::Display,
+{
+    match found {
+        Ok(header) => print(
+            rt,
+            format_args!("{event} {kind} 0 fields {}", Shown(header)),
+        ),
+        Err(number) => print(rt, format_args!("{event} {kind} {number}")),
+    }
+}
+
+fn request_read(bytes: &[u8]) -> Result<Request, u32> {
+    let r = read_request(bytes);
+    match r {
+        RequestRead::Header(q) => Ok(q),
+        RequestRead::Malformed => Err(r.number()),
+    }
+}
+
+fn completion_read(bytes: &[u8]) -> Result<Completion, u32> {
+    let r = read_completion(bytes);
+    match r {
+        CompletionRead::Header(c) => Ok(c),
+        CompletionRead::Malformed => Err(r.number()),
+    }
+}
+
+// A record of a header writer or reader. A writer is lent as much of the area as its first field says.
 pub fn play_header(
     rt: &(impl Print + Eprint),
     event: u64,
-    kind: u32,
-    f: &[u8],
-    bytes: &[u8],
+    record: Record,
     area: &mut [u8],
-) -> bool {
-    if record::lends_area(kind) {
-        return play_writer(rt, event, kind, f, area, index(word_at(f, 0)));
+) -> Result<(), WriteFailed> {
+    let kind = record.kind;
+    let f = record.fields;
+    let lent = area.get_mut(..word_at(f, 0) as usize);
+    match (kind, lent) {
+        (Kind::RequestWriter, Some(part)) => {
+            let w = write_request(request_in(f), part);
+            say_written(rt, event, kind, w, part)
+        }
+        (Kind::CompletionWriter, Some(part)) => {
+            let w = write_completion(completion_in(f), part);
+            say_written(rt, event, kind, w, part)
+        }
+        (Kind::RequestReader, _) => say_read(rt, event, kind, request_read(record.bytes)),
+        (Kind::CompletionReader, _) => say_read(rt, event, kind, completion_read(record.bytes)),
+        _ => Ok(()),
     }
-    if kind == record::REQUEST_READER {
-        return play_request_reader(rt, event, bytes);
-    }
-    play_completion_reader(rt, event, bytes)
 }

@@ -1,40 +1,47 @@
 // Numbers in a file's bytes, most significant byte first, and reading the bytes. Past the end of a slice its bytes count as 0.
-ghost use Rattle.std.specs.Prelude.{◌≡◌, ◌+◌, ◌*◌, ◌^◌, ◌<◌, ◌==◌};
-ghost use Rattle.traffic_text.specs.Numbers.{byte_at, joined_of, word_at, long_at};
+ghost use Rattle.std.specs.Prelude.{◌≡◌, ◌^◌, ◌<◌, ◌≤◌, ◌==◌, length, take, OnOk};
+ghost use Rattle.std.specs.Io.KnownBytes.{Consumes};
+ghost use Rattle.traffic_text.specs.Numbers.{byte_at, word_at, long_at};
 
-use common::wide;
 use std::io::Read;
-use streams::Fetched;
+use streams::Unfilled;
 
-// The next n bytes of the file, to the front of a buffer that has room for them.
-pub fn fetch(input: &mut impl Read, rt: &impl Eprint, buffer: &mut [u8], n: usize) -> Fetched {
-    if n <= buffer.len() {
-        return streams::read_all(input, rt, &mut buffer[0..n]);
+// What a file is read from, and where a read that fails is said.
+#[derive(Drop)]
+pub struct Input<'a, R, E> {
+    pub reader: R,
+    pub rt: &'a E,
+}
+
+impl<R: Read, E: Eprint> Input<'_, R, E> {
+    // The next n bytes of the file, to the front of a buffer that has room for them.
+    pub fn fetch(&mut self, buffer: &mut [u8], n: usize) -> Result<(), Unfilled>
+        ensures room { OnOk result (n ≤ length buffer.new) }
+        ensures all { OnOk result (Consumes (R.remaining self.old.reader) (R.remaining self.new.reader) (take n buffer.new)) }
+    {
+        if buffer.len() < n {
+            return Err(Unfilled::Ended);
+        }
+        streams::read_all(&mut self.reader, self.rt, &mut buffer[..n])
     }
-    Fetched::Ended
+}
+
+fn at(s: &[u8], i: usize) -> u8
+    ensures { result ≡ byte_at s.now i }
+{
+    s.get(i).copied().unwrap_or(0)
 }
 
 pub fn byte_at(s: &[u8], i: usize) -> u32
     ensures { (result ≡ byte_at s.now i) × (result < 2 ^ 8) }
 {
-    if i < s.len() {
-        return wide(s[i]);
-    }
-    0
+    u32::from(at(s, i))
 }
 
 pub fn flag_at(s: &[u8], i: usize) -> bool
     ensures { result ≡ (byte_at s.now i == 1) }
 {
-    byte_at(s, i) == 1
-}
-
-// The number of four bytes.
-fn joined(a: u32, b: u32, c: u32, d: u32) -> u32
-    requires { (a < 2 ^ 8) × (b < 2 ^ 8) × (c < 2 ^ 8) × (d < 2 ^ 8) }
-    ensures { result ≡ joined_of a b c d }
-{
-    a * 16777216 + b * 65536 + c * 256 + d
+    at(s, i) == 1
 }
 
 pub fn word_at(s: &[u8], i: usize) -> u32
@@ -43,18 +50,7 @@ pub fn word_at(s: &[u8], i: usize) -> u32
     if s.len() <= i {
         return 0;
     }
-    let a = byte_at(s, i);
-    let b = byte_at(s, i + 1);
-    let c = byte_at(s, i + 2);
-    let d = byte_at(s, i + 3);
-    joined(a, b, c, d)
-}
-
-// The number of two words.
-fn long_of(high: u32, low: u32) -> u64
-    ensures { result ≡ high * 4294967296 + low }
-{
-    (high as u64) * 4294967296 + (low as u64)
+    u32::from_be_bytes([at(s, i), at(s, i + 1), at(s, i + 2), at(s, i + 3)])
 }
 
 pub fn long_at(s: &[u8], i: usize) -> u64
@@ -63,5 +59,5 @@ pub fn long_at(s: &[u8], i: usize) -> u64
     if s.len() <= i {
         return 0;
     }
-    long_of(word_at(s, i), word_at(s, i + 4))
+    u64::from(word_at(s, i)) * 4294967296 + u64::from(word_at(s, i + 4))
 }

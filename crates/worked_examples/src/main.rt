@@ -5,279 +5,257 @@ use address::{AxiAddress, Settings};
 use bridge::{Answer, Bridge, Response};
 use burst::Burst;
 use parts::{AREA_SIZE, STORE_SIZE};
-use traffic_text::line::{ROOM, print, put_all, put_decimal, token};
+use streams::WriteFailed;
+use traffic_text::line::print;
 
-fn begins(area: &[u8], expected: &[u8]) -> bool {
-    if area.len() < expected.len() {
-        return false;
-    }
-    let mut i = 0;
-    while i < expected.len() {
-        if area[i] != expected[i] {
-            return false;
-        }
-        i += 1;
-    }
-    true
-}
-
-fn is_slverr(r: Response) -> bool {
-    match r {
-        Response::Slverr => true,
-        Response::Nothing => false,
-        Response::Okay => false,
-        Response::Decerr => false,
-        Response::Wait => false,
-    }
+// What the bridge is lent.
+#[derive(Drop)]
+struct Lent<'a> {
+    store: &'a mut [u8; STORE_SIZE],
+    area: &'a mut [u8; AREA_SIZE],
 }
 
 fn incr(start: u64, size: u32, beats: u32) -> Burst {
     Burst {
         start: AxiAddress(start),
-        size: size,
-        beats: beats,
+        size,
+        beats,
         kind: 1,
     }
 }
 
 // The example settings with other bus bits and time limit.
 fn settings(bits: u32, limit: u32) -> Settings {
-    let mut s = address::example_settings();
-    s.bits = bits;
-    s.limit = limit;
-    s
-}
-
-// A new bridge whose link is up.
-fn up(s: Settings, store: &mut [u8; STORE_SIZE]) -> Bridge {
-    let b = Bridge::new(s).bridge;
-    b.link(store, true).bridge
-}
-
-// The bridge of an example that changes no setting.
-fn example(store: &mut [u8; STORE_SIZE]) -> Bridge {
-    up(settings(8, 65535), store)
-}
-
-// A read sends exactly these bytes.
-fn read_sends(b: Bridge, q: Burst, area: &mut [u8; AREA_SIZE], expected: &[u8]) -> bool {
-    let a = b.read(q, area).answer;
-    (a.number == 0) & (a.length == expected.len()) & begins(area, expected)
-}
-
-fn read_number(b: Bridge, q: Burst, area: &mut [u8; AREA_SIZE]) -> u32 {
-    b.read(q, area).answer.number
-}
-
-// A configuration read sends exactly these bytes.
-fn config_sends(b: Bridge, offset: u64, area: &mut [u8; AREA_SIZE], expected: &[u8]) -> bool {
-    let a = b.config(offset, false, 0, 0, area).answer;
-    (a.number == 0) & (a.length == expected.len()) & begins(area, expected)
-}
-
-fn config_number(b: Bridge, offset: u64, area: &mut [u8; AREA_SIZE]) -> u32 {
-    b.config(offset, false, 0, 0, area).answer.number
-}
-
-// The bridge once local word 018 holds these bus numbers.
-fn with_buses(
-    b: Bridge,
-    word: u32,
-    store: &[u8; STORE_SIZE],
-    area: &mut [u8; AREA_SIZE],
-) -> Bridge {
-    let c = b.config(0x018, true, 0xF, word, area).bridge;
-    c.release(store, 8).bridge
-}
-
-// A bridge so many ticks later.
-fn ticked(b: Bridge, store: &mut [u8; STORE_SIZE], times: u32) -> Bridge {
-    let mut c = b;
-    let mut i = 0;
-    while i < times {
-        let next = c.tick(store).bridge;
-        c = next;
-        i += 1;
+    Settings {
+        bits,
+        limit,
+        ..address::example_settings()
     }
-    c
 }
 
-fn w1(store: &mut [u8; STORE_SIZE], area: &mut [u8; AREA_SIZE]) -> bool {
-    read_sends(
-        example(store),
+// An accepted call sent exactly these bytes.
+fn sent(a: Answer, area: &[u8], expected: &[u8]) -> bool {
+    a.number == 0 && a.length == expected.len() && area.starts_with(expected)
+}
+
+// The refusal number of a call, 0 where it is accepted.
+fn number(a: Answer) -> u32 {
+    a.number
+}
+
+// The bridge, its counter at the last value.
+fn at_last_tick(b: Bridge) -> Bridge {
+    let mut last = b;
+    last.core.ticks = u32::MAX;
+    last
+}
+
+impl Lent<'_> {
+    // A new bridge whose link is up.
+    fn up(&mut self, s: Settings) -> Bridge {
+        Bridge::new(s).bridge.link(self.store, true).bridge
+    }
+
+    // The bridge of an example that changes no setting.
+    fn example(&mut self) -> Bridge {
+        self.up(settings(8, 65535))
+    }
+
+    // The bridge after a read.
+    fn read(&mut self, b: Bridge, q: Burst) -> Bridge {
+        b.read(q, self.area).bridge
+    }
+
+    fn read_sends(&mut self, b: Bridge, q: Burst, expected: &[u8]) -> bool {
+        let a = b.read(q, self.area).answer;
+        sent(a, self.area, expected)
+    }
+
+    fn read_number(&mut self, b: Bridge, q: Burst) -> u32 {
+        number(b.read(q, self.area).answer)
+    }
+
+    fn config_sends(&mut self, b: Bridge, offset: u64, expected: &[u8]) -> bool {
+        let a = b.config(offset, false, 0, 0, self.area).answer;
+        sent(a, self.area, expected)
+    }
+
+    fn config_number(&mut self, b: Bridge, offset: u64) -> u32 {
+        number(b.config(offset, false, 0, 0, self.area).answer)
+    }
+
+    // The bridge once local word 018 holds these bus numbers.
+    fn with_buses(&mut self, b: Bridge, word: u32) -> Bridge {
+        let c = b.config(0x018, true, 0xF, word, self.area).bridge;
+        c.release(self.store, 8).bridge
+    }
+
+    // A bridge so many ticks later.
+    fn ticked(&mut self, b: Bridge, times: u32) -> Bridge {
+        let mut c = b;
+        for _ in 0..times {
+            c = c.tick(self.store).bridge;
+        }
+        c
+    }
+
+    // The refusal number of a release of slot 0.
+    fn release_number(&self, b: Bridge) -> u32 {
+        number(b.release(self.store, 0).answer)
+    }
+
+    // The read in slot 0 is finished, with SLVERR.
+    fn is_failed(&self, b: Bridge) -> bool {
+        let a = b.release(self.store, 0).answer;
+        a.number == 0 && a.response == Response::Slverr
+    }
+
+    // A completion of count 6 and lower address 3E fills the slot's six bytes.
+    fn w3_fills(&mut self, b: Bridge) -> bool {
+        let packet =
+            b"\x4A\x00\x00\x02\x00\x00\x00\x06\x00\x00\x00\x3E\x00\x00\x11\x22\x33\x44\x55\x66";
+        let d = b.complete(self.store, packet);
+        let part = d.bridge.look(self.store, 0);
+        number(d.answer) == 0 && part == b"\x11\x22\x33\x44\x55\x66".as_slice()
+    }
+}
+
+fn w1(m: &mut Lent) -> bool {
+    let b = m.example();
+    m.read_sends(
+        b,
         incr(0x12340ABC, 2, 1),
-        area,
         b"\x00\x00\x00\x01\x00\x00\x00\x0F\x56\x71\x0A\xBC",
     )
 }
 
-fn w2(store: &mut [u8; STORE_SIZE], area: &mut [u8; AREA_SIZE]) -> bool {
-    read_sends(
-        example(store),
+fn w2(m: &mut Lent) -> bool {
+    let b = m.example();
+    m.read_sends(
+        b,
         incr(0x12340ABC, 2, 64),
-        area,
         b"\x00\x00\x00\x11\x00\x00\x00\xFF\x56\x71\x0A\xBC\x00\x00\x00\x20\x00\x00\x01\xFF\x56\x71\x0B\x00\x00\x00\x00\x0F\x00\x00\x02\xFF\x56\x71\x0B\x80",
     )
 }
 
-// A completion of count 6 and lower address 3E fills the slot's six bytes.
-fn w3_fills(b: Bridge, store: &mut [u8; STORE_SIZE]) -> bool {
-    let packet =
-        b"\x4A\x00\x00\x02\x00\x00\x00\x06\x00\x00\x00\x3E\x00\x00\x11\x22\x33\x44\x55\x66";
-    let d = b.complete(store, packet);
-    let part = d.bridge.look(store, 0);
-    (d.answer.number == 0) & (part.len() == 6) & begins(part, b"\x11\x22\x33\x44\x55\x66")
-}
-
 // The header, and its completion.
-fn w3(store: &mut [u8; STORE_SIZE], area: &mut [u8; AREA_SIZE]) -> bool {
-    let b = example(store);
+fn w3(m: &mut Lent) -> bool {
+    let b = m.example();
     let q = incr(0x12340ABE, 2, 2);
-    let sends = read_sends(
-        b,
-        q,
-        area,
-        b"\x00\x00\x00\x02\x00\x00\x00\xFC\x56\x71\x0A\xBC",
-    );
-    sends & w3_fills(b.read(q, area).bridge, store)
+    let sends = m.read_sends(b, q, b"\x00\x00\x00\x02\x00\x00\x00\xFC\x56\x71\x0A\xBC");
+    let reading = m.read(b, q);
+    sends && m.w3_fills(reading)
 }
 
-fn w4(store: &mut [u8; STORE_SIZE], area: &mut [u8; AREA_SIZE]) -> bool {
-    read_sends(
-        example(store),
+fn w4(m: &mut Lent) -> bool {
+    let b = m.example();
+    m.read_sends(
+        b,
         incr(0x12340ABD, 0, 2),
-        area,
         b"\x00\x00\x00\x01\x00\x00\x00\x06\x56\x71\x0A\xBC",
     )
 }
 
-fn w5(store: &mut [u8; STORE_SIZE], area: &mut [u8; AREA_SIZE]) -> bool {
-    let b = example(store);
-    read_sends(
+fn w5(m: &mut Lent) -> bool {
+    let b = m.example();
+    m.read_sends(
         b,
         incr(0x12340FFE, 2, 1),
-        area,
         b"\x00\x00\x00\x01\x00\x00\x00\x0C\x56\x71\x0F\xFC",
-    ) & (read_number(b, incr(0x12340FFC, 2, 2), area) == 3)
+    ) && m.read_number(b, incr(0x12340FFC, 2, 2)) == 3
 }
 
-fn w6(store: &mut [u8; STORE_SIZE], area: &mut [u8; AREA_SIZE]) -> bool {
-    let b = example(store);
-    (read_number(b, incr(0x1234FFFC, 2, 1), area) == 0)
-        & (read_number(b, incr(0x12350000, 2, 1), area) == 2)
+fn w6(m: &mut Lent) -> bool {
+    let b = m.example();
+    m.read_number(b, incr(0x1234FFFC, 2, 1)) == 0 && m.read_number(b, incr(0x12350000, 2, 1)) == 2
 }
 
-fn w7(store: &mut [u8; STORE_SIZE], area: &mut [u8; AREA_SIZE]) -> bool {
-    config_sends(
-        with_buses(example(store), 0x00010100, store, area),
+fn w7(m: &mut Lent) -> bool {
+    let b = m.example();
+    let c = m.with_buses(b, 0x00010100);
+    m.config_sends(
+        c,
         0x00100000,
-        area,
         b"\x04\x00\x00\x01\x00\x00\x00\x0F\x01\x00\x00\x00",
     )
 }
 
-fn w8(store: &mut [u8; STORE_SIZE], area: &mut [u8; AREA_SIZE]) -> bool {
-    let b = with_buses(up(settings(1, 65535), store), 0x00010100, store, area);
-    (config_number(b, 0x001FFFFC, area) == 11) & (config_number(b, 0x00200000, area) == 9)
+fn w8(m: &mut Lent) -> bool {
+    let b = m.up(settings(1, 65535));
+    let c = m.with_buses(b, 0x00010100);
+    m.config_number(c, 0x001FFFFC) == 11 && m.config_number(c, 0x00200000) == 9
 }
 
-fn w9(store: &mut [u8; STORE_SIZE], area: &mut [u8; AREA_SIZE]) -> bool {
+fn w9(m: &mut Lent) -> bool {
     let b = Bridge::new(settings(8, 65535)).bridge;
-    let crossed = with_buses(b, 0x00020300, store, area);
-    (config_number(b, 0, area) == 0)
-        & (config_number(b, 0x00100000, area) == 10)
-        & (config_number(crossed, 0x00300000, area) == 10)
+    let crossed = m.with_buses(b, 0x00020300);
+    m.config_number(b, 0) == 0
+        && m.config_number(b, 0x00100000) == 10
+        && m.config_number(crossed, 0x00300000) == 10
 }
 
-// A bridge with the time limit 2 that has sent a read at the counter's last value.
-fn w10_sent(store: &mut [u8; STORE_SIZE], area: &mut [u8; AREA_SIZE]) -> Bridge {
-    let mut b = up(settings(8, 2), store);
-    let mut core = b.core;
-    core.ticks = 4294967295;
-    b.core = core;
-    b.read(incr(0x12340ABC, 2, 1), area).bridge
-}
-
-// The read in slot 0 is finished, with SLVERR.
-fn is_failed(b: Bridge, store: &[u8; STORE_SIZE]) -> bool {
-    let a = b.release(store, 0).answer;
-    let response = a.response;
-    (a.number == 0) & is_slverr(response)
-}
-
-fn w10(store: &mut [u8; STORE_SIZE], area: &mut [u8; AREA_SIZE]) -> bool {
-    let zero = ticked(w10_sent(store, area), store, 1);
-    let one = ticked(zero, store, 1);
-    (zero.release(store, 0).answer.number == 14) & is_failed(one, store)
-}
-
-// The bridge once a read of its own, in slot 0, has timed out: the tag of that read rests.
-fn timed_out(b: Bridge, store: &mut [u8; STORE_SIZE], area: &mut [u8; AREA_SIZE]) -> Bridge {
-    let sent = b.read(incr(0x12340ABC, 2, 1), area).bridge;
-    ticked(sent, store, 65535)
+// With the time limit 2, a read is sent at the counter's last value.
+fn w10(m: &mut Lent) -> bool {
+    let b = at_last_tick(m.up(settings(8, 2)));
+    let sent = m.read(b, incr(0x12340ABC, 2, 1));
+    let zero = m.ticked(sent, 1);
+    let one = m.ticked(zero, 1);
+    m.release_number(zero) == 14 && m.is_failed(one)
 }
 
 // 32 tags are enough for 4,096 bytes at limit 128; with one at rest after a timeout, they are too few.
-fn w11(store: &mut [u8; STORE_SIZE], area: &mut [u8; AREA_SIZE]) -> bool {
-    let b = example(store);
+fn w11(m: &mut Lent) -> bool {
+    let b = m.example();
     let q = incr(0x12340000, 4, 256);
-    let late = timed_out(b, store, area);
-    let rests = late.release(store, 0).bridge;
-    (read_number(b, q, area) == 0) & is_failed(late, store) & (read_number(rests, q, area) == 7)
+    let sent = m.read(b, incr(0x12340ABC, 2, 1));
+    let late = m.ticked(sent, 65535);
+    let rests = late.release(m.store, 0).bridge;
+    m.read_number(b, q) == 0 && m.is_failed(late) && m.read_number(rests, q) == 7
 }
 
 // Device 5 on bus 2, behind a switch on bus 1.
-fn w12(store: &mut [u8; STORE_SIZE], area: &mut [u8; AREA_SIZE]) -> bool {
-    config_sends(
-        with_buses(example(store), 0x00020100, store, area),
+fn w12(m: &mut Lent) -> bool {
+    let b = m.example();
+    let c = m.with_buses(b, 0x00020100);
+    m.config_sends(
+        c,
         0x00228000,
-        area,
         b"\x05\x00\x00\x01\x00\x00\x00\x0F\x02\x28\x00\x00",
     )
 }
 
-fn say(rt: &(impl Print + Eprint), text: &[u8]) -> bool {
-    let mut line = [0u8; ROOM];
-    let end = put_all(&mut line, 0, text);
-    print(rt, &mut line, end)
-}
-
-fn report(rt: &(impl Print + Eprint), n: u64, same: bool) -> bool {
-    let mut line = [0u8; ROOM];
-    let name = put_all(&mut line, 0, b"W");
-    let numbered = put_decimal(&mut line, name, n);
-    if same {
-        let end = token(&mut line, numbered, b"same");
-        return print(rt, &mut line, end);
-    }
-    let end = token(&mut line, numbered, b"differs");
-    print(rt, &mut line, end)
+// Whether each example comes out as it should.
+fn examples(m: &mut Lent) -> [bool; 12] {
+    [
+        w1(m),
+        w2(m),
+        w3(m),
+        w4(m),
+        w5(m),
+        w6(m),
+        w7(m),
+        w8(m),
+        w9(m),
+        w10(m),
+        w11(m),
+        w12(m),
+    ]
 }
 
 // The lines of the examples; the first that cannot be written is the last.
-fn examples(
-    rt: &(impl Print + Eprint),
-    store: &mut [u8; STORE_SIZE],
-    area: &mut [u8; AREA_SIZE],
-) -> bool {
-    report(rt, 1, w1(store, area))
-        && report(rt, 2, w2(store, area))
-        && report(rt, 3, w3(store, area))
-        && report(rt, 4, w4(store, area))
-        && report(rt, 5, w5(store, area))
-        && report(rt, 6, w6(store, area))
-        && report(rt, 7, w7(store, area))
-        && report(rt, 8, w8(store, area))
-        && report(rt, 9, w9(store, area))
-        && report(rt, 10, w10(store, area))
-        && report(rt, 11, w11(store, area))
-        && report(rt, 12, w12(store, area))
+fn report(rt: &(impl Print + Eprint), same: [bool; 12]) -> Result<(), WriteFailed> {
+    print(rt, "bridge")?;
+    for (k, same) in same.iter().enumerate() {
+        let found = if *same { "same" } else { "differs" };
+        print(rt, format_args!("W{} {found}", k + 1))?;
+    }
+    print(rt, "done 12")
 }
 
 fn main(rt: HostRuntime) {
-    let mut store = [0u8; STORE_SIZE];
-    let mut area = [0u8; AREA_SIZE];
-    if say(&rt, b"bridge") && examples(&rt, &mut store, &mut area) {
-        say(&rt, b"done 12");
-    }
+    let mut m = Lent {
+        store: &mut [0; STORE_SIZE],
+        area: &mut [0; AREA_SIZE],
+    };
+    let _ = report(&rt, examples(&mut m));
 }
