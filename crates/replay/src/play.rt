@@ -22,7 +22,6 @@ pub fn first_of(s: &[u8], n: usize) -> &[u8]
 }
 
 // An event is played, and its row put into rows.
-#[tactic(auto, using(crate::proofs::Turns::does_one))]
 fn told_in(
     b: &mut Bridge,
     store: &mut [u8],
@@ -79,7 +78,6 @@ fn completed_in(
 }
 
 // A step of the reader, and the event that it completes.
-#[tactic(auto, using(crate::proofs::Turns::turned))]
 fn turn_in(
     b: &mut Bridge,
     store: &mut [u8],

@@ -26,13 +26,13 @@ fn name_of(e: Event) -> u64
     }
 }
 
-// The row of an event, put into rows from a place on.
-pub fn put_row(rows: &mut [u64], at: usize, e: Event, a: Answer)
-    requires { at + row_size ≤ length rows.old }
-    ensures { (bytes : List ℕ) → rows.new ≡ sets rows.old at (row_of (tells (captured e bytes) (answer_of a))) }
+// The row of an event.
+#[tactic(auto, unfolding(parts::specs::Answers::refusal))]
+fn row_of(e: Event, a: Answer) -> [u64; ROW]
+    ensures { (bytes : List ℕ) → result ≡ row_of (tells (captured e bytes) (answer_of a)) }
 {
     let name = name_of(e);
-    rows[at..at + ROW].copy_from_slice(&match a {
+    match a {
         Ok(x) => [
             name,
             0,
@@ -51,5 +51,13 @@ pub fn put_row(rows: &mut [u64], at: usize, e: Event, a: Answer)
             0,
             0,
         ],
-    });
+    }
+}
+
+// It is put into rows from a place on.
+pub fn put_row(rows: &mut [u64], at: usize, e: Event, a: Answer)
+    requires { at + row_size ≤ length rows.old }
+    ensures { (bytes : List ℕ) → rows.new ≡ sets rows.old at (row_of (tells (captured e bytes) (answer_of a))) }
+{
+    rows[at..at + ROW].copy_from_slice(&row_of(e, a));
 }
