@@ -22,7 +22,7 @@ fn read_pieces(b: &mut State, slot: usize, q: Burst, area: &mut [u8]) -> usize
     ensures area { (cells : List ℕ) → area.new ≡ filled (read_sent slot q (bridge_of cells b.old) (pieces_of b.old.settings.reads q)) area.old }
 {
     let shift = shift_of(b.settings.windows, q.start);
-    let n = burst::length_of(q);
+    let n = q.length();
     let count = burst::piece_count(b.settings.reads, q.start.0, n);
     let mut at = 0;
     for k in 0..count {

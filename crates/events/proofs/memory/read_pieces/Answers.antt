@@ -25,18 +25,18 @@ pub read_turn-at-requires : goal.read_turn-at-requires
 read_turn-at-requires c =
     let a = c.args in
     let s = a.b.now.settings in
-    let cnt : c.piece_count-count.result ≡ pieces_of s.reads a.q = c.piece_count-count.ensures ∙ ap (λ x. piece_count s.reads a.q.start.0 x) c.length_of-n.ensures.0 in
+    let cnt : c.piece_count-count.result ≡ pieces_of s.reads a.q = c.piece_count-count.ensures ∙ ap (λ x. piece_count s.reads a.q.start.0 x) c.length-n.ensures.0 in
     let i = c.loop-k.invariant in
     let w = available_within tag_count a.b.now.core.free in
     let h : 0 < available tag_count c.loop-k.b.core.free = omega (arith, cnt, i.1.0, c.loop-k-test.true, c.requires.1.0) in
     let r : c.loop-k.at + 16 ≤ length c.loop-k.area = omega (arith, cnt, w, i.1.1.0, i.1.1.1.0, c.loop-k-test.true, c.requires.1) in
-    (lowest_below c.loop-k.b.core.free h, (c.requires.0, (c.length_of-n.ensures.0, (c.length_of-n.ensures.1.1, (rw (i.0, ← c.piece_count-count.ensures) c.loop-k-test.true, r)))))
+    (lowest_below c.loop-k.b.core.free h, (c.requires.0, (c.length-n.ensures.0, (c.length-n.ensures.1.1, (rw (i.0, ← c.piece_count-count.ensures) c.loop-k-test.true, r)))))
 
 pub loop-k-preserved : goal.loop-k-preserved
 loop-k-preserved c =
     let a = c.args in
     let s = a.b.now.settings in
-    let cnt : c.piece_count-count.result ≡ pieces_of s.reads a.q = c.piece_count-count.ensures ∙ ap (λ x. piece_count s.reads a.q.start.0 x) c.length_of-n.ensures.0 in
+    let cnt : c.piece_count-count.result ≡ pieces_of s.reads a.q = c.piece_count-count.ensures ∙ ap (λ x. piece_count s.reads a.q.start.0 x) c.length-n.ensures.0 in
     let i = c.loop-k.invariant in
     let w = available_within tag_count a.b.now.core.free in
     let h : 0 < available tag_count c.loop-k.b.core.free = omega (arith, cnt, i.1.0, c.loop-k-test.true, c.requires.1.0) in
