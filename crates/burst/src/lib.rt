@@ -86,6 +86,7 @@ impl Burst {
 }
 
 // How many pieces n bytes from a start have.
+// Kept: limit, start and length are three numbers and no struct: each caller would build it for one call from settings and burst.
 pub fn piece_count(limit: u32, start: u64, n: u32) -> u32
     ensures { result ≡ piece_count limit start n }
 {

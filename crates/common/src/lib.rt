@@ -1,4 +1,4 @@
-// Small steps on numbers and bytes that every layer shares.
+// Small steps on bytes that the layers share, and the decode bits.
 #![tactic(auto)]
 
 ghost use Rattle.std.specs.Prelude.{◌≡◌, ◌+◌, ◌^◌, ◌≤◌, ◌<◌, length, replicate};

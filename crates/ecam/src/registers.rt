@@ -64,7 +64,7 @@ fn show(w: u32) -> u32
 }
 
 // A write to a local word, whose strobes choose bytes of its data.
-#[derive(Clone, Copy)]
+#[derive(Clone, Copy, Debug, PartialEq, Eq)]
 struct Write {
     strobes: u32,
     data: u32,
