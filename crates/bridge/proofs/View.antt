@@ -1,5 +1,5 @@
 -- A struct is decided by its view, but for where its queue stands: its rows are decided by their columns.
-use Rattle.std.proofs.Common.{◌≡◌, ℕ, List, length, sym, ap, ◌∙◌}
+use Rattle.std.proofs.Common.{◌≡◌, ℕ, List, sym, ap, ◌∙◌}
 use Rattle.parts.specs.Cores.{Core}
 use Rattle.parts.specs.declared.TagRow.{TagRow}
 use Rattle.parts.specs.declared.SlotRow.{SlotRow}

@@ -3,8 +3,6 @@ use Rattle.std.proofs.Common.{◌≡◌, ℕ, suc, List, [], ◌∷◌, set, get
 use Rattle.std.proofs.lemmas.List.{map-set}
 use Rattle.std.proofs.Math.ListN.{get_or-map}
 use Rattle.std.proofs.Math.Seq.{map-set_same}
-use Rattle.address.specs.declared.Settings.{Settings}
-use Rattle.parts.specs.declared.Core.{Core}
 use Rattle.parts.specs.declared.State.{State}
 use Rattle.parts.specs.declared.TagRow.{TagRow}
 use Rattle.parts.specs.declared.SlotRow.{SlotRow}

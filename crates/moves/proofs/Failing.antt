@@ -1,5 +1,5 @@
 -- A failure is noted in its slot and its decode bit alone: what is kept by tag stays.
-use Rattle.std.proofs.Common.{◌≡◌, ℕ, Bool, true, false, cond, List, ltb, refl}
+use Rattle.std.proofs.Common.{◌≡◌, ℕ, Bool, true, false, cond, ltb, refl}
 use Rattle.verdict.specs.declared.Cause.{Cause}
 use Rattle.machine.specs.Bridge.{Bridge, set_fault, set_cause, fault_of}
 use Rattle.machine.specs.Completions.{failed, faulted}

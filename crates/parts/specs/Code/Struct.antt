@@ -10,7 +10,6 @@ use Rattle.parts.specs.declared.Accepted.{Accepted}
 use Rattle.parts.specs.Answers.{Answer, refusal}
 use Rattle.messages.specs.declared.queue.Ring.{Ring}
 use Rattle.ecam.specs.Code.Struct.{registers_from, registers_at}
-use Rattle.parts.specs.declared.ConfigSlot.{ConfigSlot}
 use Rattle.parts.specs.declared.Core as code
 use Rattle.parts.specs.Cores.{Core}
 

@@ -7,7 +7,6 @@ use Rattle.address.specs.Windows.{axi, translated}
 use Rattle.burst.specs.Pieces.{piece_count}
 use Rattle.packets.proofs.Packets.{packet_short}
 use Rattle.parts.specs.Sizes.{tag_count}
-use Rattle.machine.specs.Bridge.{Bridge}
 use Rattle.machine.specs.State.{opened}
 use Rattle.machine.specs.Memory.{pieces_of, piece_of, place_in, memory_request, packet}
 use Rattle.parts.specs.Pendings.{memory_pending}

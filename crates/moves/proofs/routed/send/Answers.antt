@@ -1,4 +1,4 @@
-use Rattle.std.proofs.Common.{◌≡◌, refl, sym, ◌∙◌, arith}
+use Rattle.std.proofs.Common.{refl, sym, ◌∙◌, arith}
 use mathlib.Core.List.{append-nil}
 use lib.ListN.{length-append}
 use lib.Dec.{lit≤}

@@ -1,4 +1,4 @@
-use Rattle.std.proofs.Common.{◌≡◌, ◌-◌, ◌≤◌}
+use Rattle.std.proofs.Common.{◌≡◌, ◌-◌}
 use Rattle.parts.specs.Sizes.{slot_count}
 use Rattle.parts.specs.Numbers.{free_slot_from}
 use Rattle.parts.specs.Code.Struct.{states_of}

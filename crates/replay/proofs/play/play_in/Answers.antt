@@ -1,5 +1,5 @@
-use Rattle.std.proofs.Common.{refl, ap, ◌∙◌, arith, length}
-use Rattle.replay.proofs.Going.{going_start, going_on, stops_at_end, stops_halted, not_halted}
+use Rattle.std.proofs.Common.{refl, ◌∙◌}
+use Rattle.replay.proofs.Going.{going_on, stops_halted, not_halted}
 use Rattle.replay.proofs.play.play_in.Goals as goal
 
 pub loop-used-preserved : goal.loop-used-preserved

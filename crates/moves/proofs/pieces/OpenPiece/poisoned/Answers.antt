@@ -1,4 +1,4 @@
-use Rattle.std.proofs.Common.{◌≡◌, ◌∙◌, List, ℕ, [], ap}
+use Rattle.std.proofs.Common.{◌≡◌, ◌∙◌, [], ap}
 use Rattle.verdict.specs.declared.Cause.TheVariants.{Poison}
 use Rattle.parts.specs.Code.Struct.{places_of}
 use Rattle.machine.specs.Bridge.{Bridge}
