@@ -172,17 +172,6 @@ impl Settings {
     }
 }
 
-// For callers that still speak in numbers.
-#[tactic(auto, unfolding(crate::specs::Settings::settings_number))]
-pub fn settings_number(s: Settings) -> u32
-    ensures { result ≡ settings_number s }
-{
-    match s.check() {
-        Ok(()) => 0,
-        Err(_) => 1,
-    }
-}
-
 // The settings of the worked examples.
 pub fn example_settings() -> Settings
     ensures { result ≡ example_settings }

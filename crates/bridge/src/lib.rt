@@ -9,7 +9,7 @@ use parts::State;
 pub use parts::{Accepted, Answer, ConfigSlot, Core, Figures};
 pub use refusals::{Refusal, Response};
 
-#[derive(Clone, Copy)]
+#[derive(Clone, Copy, Debug, PartialEq, Eq)]
 pub struct Bridge {
     pub state: State,
     // The entries of the queued error messages; `state.core.registers.errors` says where they begin and how many there are.
@@ -17,7 +17,7 @@ pub struct Bridge {
 }
 
 // An event's answer, with the bridge after it.
-#[derive(Clone, Copy)]
+#[derive(Clone, Copy, Debug, PartialEq, Eq)]
 pub struct Answered {
     pub bridge: Bridge,
     pub answer: Answer,

@@ -85,28 +85,8 @@ impl Burst {
     }
 }
 
-// For callers that still speak in numbers.
-#[tactic(auto, unfolding(crate::specs::Bursts::burst_number))]
-pub fn burst_number(b: Burst) -> u32
-    ensures { result ≡ burst_number b }
-{
-    if b.right() { 0 } else { 3 }
-}
-
-pub fn length_of(b: Burst) -> u32
-    ensures { (result ≡ length_of b) × ((result ≤ 4096) × (b.start.0 + result ≤ 2 ^ 64)) }
-{
-    b.length()
-}
-
-#[tactic(auto, unfolding(crate::specs::Bursts::data_number))]
-pub fn data_number(b: Burst, len: usize) -> u32
-    ensures { result ≡ data_number b len }
-{
-    if len == b.length() as usize { 0 } else { 15 }
-}
-
 // How many pieces n bytes from a start have.
+// Kept: limit, start and length are three numbers and no struct: each caller would build it for one call from settings and burst.
 pub fn piece_count(limit: u32, start: u64, n: u32) -> u32
     ensures { result ≡ piece_count limit start n }
 {

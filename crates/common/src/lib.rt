@@ -1,36 +1,8 @@
-// Small steps on numbers and bytes that every layer shares.
+// Small steps on bytes that the layers share, and the decode bits.
 #![tactic(auto)]
 
 ghost use Rattle.std.specs.Prelude.{◌≡◌, ◌+◌, ◌^◌, ◌≤◌, ◌<◌, length, replicate};
 ghost use Rattle.std.proofs.Math.Seq.{paste};
-
-// A byte as a number to compute with.
-pub fn wide(b: u8) -> u32
-    ensures { (result ≡ b) × (b < 2 ^ 8) }
-{
-    b as u32
-}
-
-// A byte as a part of an address.
-pub fn wide64(b: u8) -> u64
-    ensures { (result ≡ b) × (b < 2 ^ 8) }
-{
-    b as u64
-}
-
-// A number as an index.
-pub fn index(x: u32) -> usize
-    ensures { (result ≡ x) × (x < 2 ^ 32) }
-{
-    x as usize
-}
-
-// A number to add to others of its kind.
-pub fn long(x: u32) -> u64
-    ensures { (result ≡ x) × (x < 2 ^ 32) }
-{
-    x as u64
-}
 
 // n zeros, put into dst from at on.
 pub fn zero_at(dst: &mut [u8], at: usize, n: usize)

@@ -1,5 +1,5 @@
 -- The registers as a value, and one setter for each. A new register is a line in each of these, in `fresh`, in the struct of
--- the code and in what the struct means (contracts/; `bridge` spells the struct out in its view).
+-- the code and in what the struct means (Code/Struct.antt).
 use Rattle.std.specs.Prelude.{ℕ, List, Bool}
 
 pub record Registers : Type 0 where

@@ -64,7 +64,7 @@ fn show(w: u32) -> u32
 }
 
 // A write to a local word, whose strobes choose bytes of its data.
-#[derive(Clone, Copy)]
+#[derive(Clone, Copy, Debug, PartialEq, Eq)]
 struct Write {
     strobes: u32,
     data: u32,
@@ -280,40 +280,4 @@ impl Registers {
     {
         !self.disable && self.decode & self.mask & DECODE != 0
     }
-}
-
-// For callers that are still to change.
-pub fn fresh_registers() -> Registers
-    ensures { (cells : List ℕ) → registers_from result cells ≡ fresh }
-{
-    Registers::fresh()
-}
-
-pub fn local_read(r: Registers, cells: &[u32; DEPTH], word: u32) -> u32
-    ensures { result ≡ local_read (registers_from r cells.now) word }
-{
-    r.local_read(cells, word)
-}
-
-pub fn local_write(r: Registers, word: u32, strobes: u32, data: u32) -> Registers
-    ensures { (cells : List ℕ) → registers_from result cells ≡ local_write (registers_from r cells) word strobes «data» }
-{
-    r.local_write(word, strobes, data)
-}
-
-#[tactic(auto, unfolding(crate::specs::Registers::raised), using(crate::proofs::Words::decode_bits_lem))]
-pub fn raise(decode: u32, i: u32) -> u32
-    ensures { result ≡ raised decode i }
-{
-    if bits::is_set(DECODE, i) {
-        bits::set(decode, i)
-    } else {
-        decode
-    }
-}
-
-pub fn line(r: Registers) -> bool
-    ensures { (cells : List ℕ) → result ≡ line (registers_from r cells) }
-{
-    r.line()
 }

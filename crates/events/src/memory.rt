@@ -9,7 +9,7 @@ ghost use Rattle.machine.specs.Code.Tables.{bridge_of};
 
 use burst::Burst;
 use moves::memory::{check_write, read_slot};
-use moves::opening::{claim, read_turn};
+use moves::opening::{Opening, claim};
 use packets::{shift_of, write_pieces};
 use parts::{Accepted, Answer, State};
 use refusals::Response;
@@ -21,12 +21,15 @@ fn read_pieces(b: &mut State, slot: usize, q: Burst, area: &mut [u8]) -> usize
     ensures sent { (cells : List ℕ) → result ≡ length (read_sent slot q (bridge_of cells b.old) (pieces_of b.old.settings.reads q)) }
     ensures area { (cells : List ℕ) → area.new ≡ filled (read_sent slot q (bridge_of cells b.old) (pieces_of b.old.settings.reads q)) area.old }
 {
-    let shift = shift_of(b.settings.windows, q.start);
-    let n = burst::length_of(q);
-    let count = burst::piece_count(b.settings.reads, q.start.0, n);
+    let read = Opening {
+        slot,
+        shift: shift_of(b.settings.windows, q.start),
+        burst: q,
+        bytes: q.length(),
+    };
     let mut at = 0;
-    for k in 0..count {
-        at = read_turn(b, slot, shift, q, n, k, area, at);
+    for k in 0..burst::piece_count(b.settings.reads, q.start.0, read.bytes) {
+        at = read.turn(b, k, area, at);
     }
     at
 }

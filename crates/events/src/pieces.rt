@@ -7,7 +7,7 @@ ghost use Rattle.machine.specs.Completions.{memory_completed};
 ghost use Rattle.machine.specs.Code.Expected.{Fits};
 ghost use Rattle.machine.specs.Code.Tables.{held_of};
 
-use moves::pieces::{failed, good, poisoned};
+use moves::pieces::OpenPiece;
 use parts::State;
 use tlp::completion::Completion;
 use verdict::Verdict;
@@ -24,11 +24,14 @@ pub fn memory_in(
     requires { (store_size ≤ length store.old) × ((h.tag < tag_count) × ((k < slot_count) × ((is_open (get_or b.old.missing h.tag 0) (get_or (places_of b.old.tags) h.tag 0) ≡ true) × ((length payload.now ≡ 4 * h.length) × Fits h (get_or b.old.missing h.tag 0) v)))) }
     ensures { (cells : List ℕ) → held_of cells b.new store.new ≡ memory_completed (held_of cells b.old store.old) h.tag k (h.lower % 4) payload.now v }
 {
-    let skip = (h.lower % 4) as usize;
+    let piece = OpenPiece {
+        tag: h.tag,
+        slot: k,
+    };
     match v {
         Verdict::Unexpected => {}
-        Verdict::Good(n) => good(b, store, payload, h.tag, k, skip, n),
-        Verdict::Poisoned(n) => poisoned(b, store, h.tag, k, n),
-        Verdict::Failed(why) => failed(b, store, h.tag, k, why),
+        Verdict::Good(n) => piece.good(b, store, payload, (h.lower % 4) as usize, n),
+        Verdict::Poisoned(n) => piece.poisoned(b, store, n),
+        Verdict::Failed(why) => piece.failed(b, store, why),
     }
 }

@@ -104,14 +104,3 @@ impl ErrorMessage {
         u32::from(self.requester) + self.code.shown_type() * TYPE + VALID
     }
 }
-
-// For callers that are still to change.
-#[tactic(auto, using(crate::proofs::Bytes::long))]
-pub fn is_error_message(s: &[u8]) -> bool
-    ensures { (result ≡ is_error_message s.now) × (result ≡ true → length s.now ≡ 16) }
-{
-    match ErrorMessage::read(s) {
-        Ok(_) => true,
-        Err(_) => false,
-    }
-}

@@ -18,31 +18,34 @@ use burst::Burst;
 use packets::{Shift, head_of, memory_request};
 use parts::{OPEN, Pending, SLOT_SIZE, SlotRow, State};
 
-// The k-th piece of n bytes is opened, and its header sent; where the next packet goes.
-pub fn read_turn(
-    b: &mut State,
-    slot: usize,
-    shift: Shift,
-    q: Burst,
-    n: u32,
-    k: u32,
-    area: &mut [u8],
-    at: usize,
-) -> usize
-    requires { (lowest tag_count b.old.core.free < tag_count) × ((slot < slot_count) × ((n ≡ length_of q) × ((q.start.0 + n ≤ 2 ^ 64) × ((k < piece_count b.old.settings.reads q.start.0 n) × (at + 16 ≤ length area.old))))) }
-    ensures tables { (cells : List ℕ) → bridge_of cells b.new ≡ opened (memory_pending slot (place_in q (piece_of b.old.settings.reads q k)) (piece_of b.old.settings.reads q k).length (translated shift.base shift.target (axi (piece_of b.old.settings.reads q k).first)).0) (bridge_of cells b.old) }
-    ensures at { result ≡ at + length (packet (memory_request false b.old.settings.requester (lowest tag_count b.old.core.free) (translated shift.base shift.target (axi (piece_of b.old.settings.reads q k).first)).0 (piece_of b.old.settings.reads q k).length) []) }
-    ensures area { area.new ≡ paste area.old at (packet (memory_request false b.old.settings.requester (lowest tag_count b.old.core.free) (translated shift.base shift.target (axi (piece_of b.old.settings.reads q k).first)).0 (piece_of b.old.settings.reads q k).length) []) (length (packet (memory_request false b.old.settings.requester (lowest tag_count b.old.core.free) (translated shift.base shift.target (axi (piece_of b.old.settings.reads q k).first)).0 (piece_of b.old.settings.reads q k).length) [])) }
-{
-    let p = burst::piece_at(b.settings.reads, q.start.0, n, k);
-    let a = shift.translate(AxiAddress(p.first));
-    let tag = tags::lowest(b.core.free);
-    let h = head_of(memory_request(false, b.settings.requester, tag, a, p.length));
-    let end = at + h.length;
-    area[at..end].copy_from_slice(&h.bytes[..h.length]);
-    let place = (p.first - q.start.0) as u32;
-    open(b, Pending::memory(slot as u32, place, p.length, a.0));
-    end
+// A memory read that is being opened: its slot, the shift of its window, its burst, and how many bytes that covers.
+#[derive(Clone, Copy, Debug, PartialEq, Eq)]
+pub struct Opening {
+    pub slot: usize,
+    pub shift: Shift,
+    pub burst: Burst,
+    pub bytes: u32,
+}
+
+impl Opening {
+    // The k-th piece is opened, and its header sent; where the next packet goes.
+    pub fn turn(self, b: &mut State, k: u32, area: &mut [u8], at: usize) -> usize
+        requires { (lowest tag_count b.old.core.free < tag_count) × ((self.slot < slot_count) × ((self.bytes ≡ length_of self.burst) × ((self.burst.start.0 + self.bytes ≤ 2 ^ 64) × ((k < piece_count b.old.settings.reads self.burst.start.0 self.bytes) × (at + 16 ≤ length area.old))))) }
+        ensures tables { (cells : List ℕ) → bridge_of cells b.new ≡ opened (memory_pending self.slot (place_in self.burst (piece_of b.old.settings.reads self.burst k)) (piece_of b.old.settings.reads self.burst k).length (translated self.shift.base self.shift.target (axi (piece_of b.old.settings.reads self.burst k).first)).0) (bridge_of cells b.old) }
+        ensures at { result ≡ at + length (packet (memory_request false b.old.settings.requester (lowest tag_count b.old.core.free) (translated self.shift.base self.shift.target (axi (piece_of b.old.settings.reads self.burst k).first)).0 (piece_of b.old.settings.reads self.burst k).length) []) }
+        ensures area { area.new ≡ paste area.old at (packet (memory_request false b.old.settings.requester (lowest tag_count b.old.core.free) (translated self.shift.base self.shift.target (axi (piece_of b.old.settings.reads self.burst k).first)).0 (piece_of b.old.settings.reads self.burst k).length) []) (length (packet (memory_request false b.old.settings.requester (lowest tag_count b.old.core.free) (translated self.shift.base self.shift.target (axi (piece_of b.old.settings.reads self.burst k).first)).0 (piece_of b.old.settings.reads self.burst k).length) [])) }
+    {
+        let start = self.burst.start.0;
+        let p = burst::piece_at(b.settings.reads, start, self.bytes, k);
+        let a = self.shift.translate(AxiAddress(p.first));
+        let tag = tags::lowest(b.core.free);
+        let h = head_of(memory_request(false, b.settings.requester, tag, a, p.length));
+        let end = at + h.length;
+        area[at..end].copy_from_slice(&h.bytes[..h.length]);
+        let place = (p.first - start) as u32;
+        open(b, Pending::memory(self.slot as u32, place, p.length, a.0));
+        end
+    }
 }
 
 // A slot waits for a burst, which is accepted in this session.

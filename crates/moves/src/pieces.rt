@@ -14,62 +14,69 @@ use crate::tagged::{count, free, shut};
 use parts::{SLOT_SIZE, State};
 use verdict::Cause;
 
-// A piece closes, and its tag is free.
-fn close(b: &mut State, store: &mut [u8], tag: u32, k: usize)
-    requires { (store_size ≤ length store.old) × ((tag < tag_count) × (k < slot_count)) }
-    ensures { (cells : List ℕ) → held_of cells b.new store.new ≡ closed tag k (held_of cells b.old store.old) }
-{
-    shut(b, tag as usize);
-    free(b, tag);
-    close_piece(b, store, k);
+// A memory read's piece that waits for bytes: its tag, and the slot that the bytes go to.
+#[derive(Clone, Copy, Debug, PartialEq, Eq)]
+pub struct OpenPiece {
+    pub tag: u32,
+    pub slot: usize,
 }
 
-// n bytes have come for a tag, the last perhaps.
-#[tactic(auto, unfolding(machine::specs::Completions::advanced))]
-fn advance(b: &mut State, store: &mut [u8], tag: u32, k: usize, n: u32)
-    requires { (store_size ≤ length store.old) × ((tag < tag_count) × ((k < slot_count) × ((n ≤ get_or b.old.missing tag 0) × (get_or (places_of b.old.tags) tag 0 + n ≤ slot_size)))) }
-    ensures { (cells : List ℕ) → held_of cells b.new store.new ≡ advanced tag k n (held_of cells b.old store.old) }
-{
-    let t = tag as usize;
-    let before = b.missing[t];
-    count(b, t, n);
-    if before <= n {
-        close(b, store, tag, k);
+impl OpenPiece {
+    // A piece closes, and its tag is free.
+    fn close(self, b: &mut State, store: &mut [u8])
+        requires { (store_size ≤ length store.old) × ((self.tag < tag_count) × (self.slot < slot_count)) }
+        ensures { (cells : List ℕ) → held_of cells b.new store.new ≡ closed self.tag self.slot (held_of cells b.old store.old) }
+    {
+        shut(b, self.tag as usize);
+        free(b, self.tag);
+        close_piece(b, store, self.slot);
     }
-}
 
-// Good data: n bytes of the payload, from skip on, go to their place.
-pub fn good(
-    b: &mut State,
-    store: &mut [u8],
-    payload: &[u8],
-    tag: u32,
-    k: usize,
-    skip: usize,
-    n: u32,
-)
-    requires { (store_size ≤ length store.old) × ((tag < tag_count) × ((k < slot_count) × ((n ≤ get_or b.old.missing tag 0) × ((get_or (places_of b.old.tags) tag 0 + n ≤ slot_size) × (skip + n ≤ length payload.now))))) }
-    ensures { (cells : List ℕ) → held_of cells b.new store.new ≡ advanced tag k n (held_of cells b.old (paste store.old (slot_size * k + get_or (places_of b.old.tags) tag 0) (useful_bytes skip n payload.now) n)) }
-{
-    let place = b.tags[tag as usize].place as usize;
-    store_at(store, SLOT_SIZE * k + place, payload, skip, n as usize);
-    advance(b, store, tag, k, n);
-}
+    // n bytes have come for a tag, the last perhaps.
+    #[tactic(auto, unfolding(machine::specs::Completions::advanced))]
+    fn advance(self, b: &mut State, store: &mut [u8], n: u32)
+        requires { (store_size ≤ length store.old) × ((self.tag < tag_count) × ((self.slot < slot_count) × ((n ≤ get_or b.old.missing self.tag 0) × (get_or (places_of b.old.tags) self.tag 0 + n ≤ slot_size)))) }
+        ensures { (cells : List ℕ) → held_of cells b.new store.new ≡ advanced self.tag self.slot n (held_of cells b.old store.old) }
+    {
+        let t = self.tag as usize;
+        let before = b.missing[t];
+        count(b, t, n);
+        if before <= n {
+            self.close(b, store);
+        }
+    }
 
-// Poisoned data only counts down, and marks the piece failed.
-pub fn poisoned(b: &mut State, store: &mut [u8], tag: u32, k: usize, n: u32)
-    requires { (store_size ≤ length store.old) × ((tag < tag_count) × ((k < slot_count) × ((n ≤ get_or b.old.missing tag 0) × (get_or (places_of b.old.tags) tag 0 + n ≤ slot_size)))) }
-    ensures { (cells : List ℕ) → held_of cells b.new store.new ≡ advanced tag k n (held (failed k (get_or (places_of b.old.tags) tag 0) Poison (bridge_of cells b.old)) store.old) }
-{
-    fail(b, k, b.tags[tag as usize].place, Cause::Poison);
-    advance(b, store, tag, k, n);
-}
+    // Good data: n bytes of the payload, from skip on, go to their place.
+    pub fn good(self, b: &mut State, store: &mut [u8], payload: &[u8], skip: usize, n: u32)
+        requires { (store_size ≤ length store.old) × ((self.tag < tag_count) × ((self.slot < slot_count) × ((n ≤ get_or b.old.missing self.tag 0) × ((get_or (places_of b.old.tags) self.tag 0 + n ≤ slot_size) × (skip + n ≤ length payload.now))))) }
+        ensures { (cells : List ℕ) → held_of cells b.new store.new ≡ advanced self.tag self.slot n (held_of cells b.old (paste store.old (slot_size * self.slot + get_or (places_of b.old.tags) self.tag 0) (useful_bytes skip n payload.now) n)) }
+    {
+        let place = b.tags[self.tag as usize].place as usize;
+        store_at(
+            store,
+            SLOT_SIZE * self.slot + place,
+            payload,
+            skip,
+            n as usize,
+        );
+        self.advance(b, store, n);
+    }
 
-// A failing status closes the piece.
-pub fn failed(b: &mut State, store: &mut [u8], tag: u32, k: usize, why: Cause)
-    requires { (store_size ≤ length store.old) × ((tag < tag_count) × (k < slot_count)) }
-    ensures { (cells : List ℕ) → held_of cells b.new store.new ≡ closed tag k (held (failed k (get_or (places_of b.old.tags) tag 0) why (bridge_of cells b.old)) store.old) }
-{
-    fail(b, k, b.tags[tag as usize].place, why);
-    close(b, store, tag, k);
+    // Poisoned data only counts down, and marks the piece failed.
+    pub fn poisoned(self, b: &mut State, store: &mut [u8], n: u32)
+        requires { (store_size ≤ length store.old) × ((self.tag < tag_count) × ((self.slot < slot_count) × ((n ≤ get_or b.old.missing self.tag 0) × (get_or (places_of b.old.tags) self.tag 0 + n ≤ slot_size)))) }
+        ensures { (cells : List ℕ) → held_of cells b.new store.new ≡ advanced self.tag self.slot n (held (failed self.slot (get_or (places_of b.old.tags) self.tag 0) Poison (bridge_of cells b.old)) store.old) }
+    {
+        fail(b, self.slot, b.tags[self.tag as usize].place, Cause::Poison);
+        self.advance(b, store, n);
+    }
+
+    // A failing status closes the piece.
+    pub fn failed(self, b: &mut State, store: &mut [u8], why: Cause)
+        requires { (store_size ≤ length store.old) × ((self.tag < tag_count) × (self.slot < slot_count)) }
+        ensures { (cells : List ℕ) → held_of cells b.new store.new ≡ closed self.tag self.slot (held (failed self.slot (get_or (places_of b.old.tags) self.tag 0) why (bridge_of cells b.old)) store.old) }
+    {
+        fail(b, self.slot, b.tags[self.tag as usize].place, why);
+        self.close(b, store);
+    }
 }

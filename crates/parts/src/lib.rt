@@ -72,7 +72,7 @@ pub struct Pending {
 }
 
 // The registers and what else is kept once. The queued error messages stand in cells that are lent beside it.
-#[derive(Clone, Copy)]
+#[derive(Clone, Copy, Debug, PartialEq, Eq)]
 pub struct Core {
     pub registers: Registers,
     pub ticks: u32,
@@ -114,7 +114,7 @@ pub struct SlotRow {
 }
 
 // A bridge but for the cells of its queued error messages, which few events look at.
-#[derive(Clone, Copy)]
+#[derive(Clone, Copy, Debug, PartialEq, Eq)]
 pub struct State {
     pub settings: Settings,
     pub core: Core,

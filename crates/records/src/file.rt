@@ -29,6 +29,7 @@ pub fn verdict_of(s: &[u8]) -> Summary
 {
     let mut events = 0;
     let mut at = 0;
+    // Kept: a loop, since a turn goes on by the size of the record that it found.
     loop {
         let verdict = match next(events, &s[at..]) {
             Found::Whole(_, size) => {

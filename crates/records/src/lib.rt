@@ -15,7 +15,7 @@ use burst::Burst;
 use kind::MOST_BODY;
 
 // An event of a capture, as far as it is numbers. A write's data and a completion's bytes are lent beside it.
-#[derive(Clone, Copy)]
+#[derive(Clone, Copy, Debug, PartialEq, Eq)]
 pub enum Event {
     Read(Burst),
     Write(Burst),
@@ -40,7 +40,7 @@ pub enum Fault {
 }
 
 // What bytes begin with.
-#[derive(Clone, Copy)]
+#[derive(Clone, Copy, Debug, PartialEq, Eq)]
 pub enum Found {
     // Nothing, or a part of a record in which no fault is known yet.
     More,
@@ -52,7 +52,7 @@ pub enum Found {
 }
 
 // What a writer writes. A message has no record.
-#[derive(Clone, Copy)]
+#[derive(Clone, Copy, Debug, PartialEq, Eq)]
 pub enum Item {
     Event(Event),
     End(u64),

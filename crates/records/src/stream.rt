@@ -9,7 +9,7 @@ use crate::{Event, Found, LONGEST, Phase, Reader};
 use refusals::Refusal;
 
 // An event that was completed, and where its record stands.
-#[derive(Clone, Copy)]
+#[derive(Clone, Copy, Debug, PartialEq, Eq)]
 pub enum Got {
     // In the bytes that were read, all of them.
     Here(Event),
@@ -18,7 +18,7 @@ pub enum Got {
 }
 
 // How far the reader came.
-#[derive(Clone, Copy)]
+#[derive(Clone, Copy, Debug, PartialEq, Eq)]
 pub struct Came {
     pub reader: Reader,
     // How many bytes were read.

@@ -95,34 +95,3 @@ pub fn refusal_response(n: u32) -> Response
         _ => Response::Nothing,
     }
 }
-
-// For callers that still speak in numbers.
-pub const SETTING: u32 = 1;
-
-pub const NO_WINDOW: u32 = 2;
-
-pub const WRONG_BURST: u32 = 3;
-
-pub const LINK_DOWN: u32 = 4;
-
-pub const CONFIG_BUSY: u32 = 5;
-
-pub const SLOTS_USED: u32 = 6;
-
-pub const FEW_TAGS: u32 = 7;
-
-pub const TOO_SHORT: u32 = 8;
-
-pub const MALFORMED: u32 = 12;
-
-pub const UNEXPECTED: u32 = 13;
-
-pub const NOT_FINISHED: u32 = 14;
-
-pub const WRONG_DATA: u32 = 15;
-
-pub fn response_code(r: Response) -> u32
-    ensures { result ≡ code_of r }
-{
-    r.code()
-}

@@ -1,4 +1,4 @@
-// A capture played on lent tables: the bridge is unpacked once a call, and never an event.
+// A capture played on a bridge that is lent from event to event, and by value from call to call.
 #![tactic(auto)]
 
 pub mod event;

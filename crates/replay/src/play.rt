@@ -22,7 +22,7 @@ pub fn first_of(s: &[u8], n: usize) -> &[u8]
 }
 
 // An event is played, and its row put into rows.
-#[tactic(auto, using(crate::proofs::Turns::does_one))]
+// Kept, here and below: store, area, rows and buffer are lent one by one, since the contracts speak of each before and after a call.
 fn told_in(
     b: &mut Bridge,
     store: &mut [u8],
@@ -41,7 +41,7 @@ fn told_in(
 }
 
 // What a turn, or a call, hands back.
-#[derive(Clone, Copy)]
+#[derive(Clone, Copy, Debug, PartialEq, Eq)]
 pub struct Turn {
     pub reader: Reader,
     // The bytes read, and the events played.
@@ -79,7 +79,6 @@ fn completed_in(
 }
 
 // A step of the reader, and the event that it completes.
-#[tactic(auto, using(crate::proofs::Turns::turned))]
 fn turn_in(
     b: &mut Bridge,
     store: &mut [u8],
@@ -128,6 +127,7 @@ pub fn play_in(
     let mut reader = r;
     let mut used = 0;
     let mut played = 0;
+    // Kept: a loop, since a turn goes on by the bytes that it read.
     while used < input.len() {
         if halted(reader.phase, played, allowed) {
             break;

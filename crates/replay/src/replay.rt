@@ -13,7 +13,7 @@ use records::{LONGEST, Reader};
 use refusals::Refusal;
 
 // What a call leaves.
-#[derive(Clone, Copy)]
+#[derive(Clone, Copy, Debug, PartialEq, Eq)]
 pub struct Replayed {
     pub bridge: Bridge,
     pub reader: Reader,

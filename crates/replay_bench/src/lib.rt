@@ -20,6 +20,7 @@ pub fn replay_bench_play(
     let mut reader = Reader::fresh();
     let mut rest = input;
     let mut events: u64 = 0;
+    // Kept: a loop, since a call goes on by the bytes that it read.
     while !rest.is_empty() {
         let Ok(next) = replay(bridge, store, area, rows, reader, held, rest, allowed) else {
             return events;

@@ -137,22 +137,3 @@ pub fn config_verdict(c: Completion, write: bool) -> Verdict
         status => Verdict::Failed(Cause::of_status(status)),
     }
 }
-
-// For callers that are still to change.
-pub fn cause_response(cause: Cause) -> u32
-    ensures { result ≡ cause_response cause }
-{
-    cause.response().code()
-}
-
-pub fn cause_bit(cause: Cause) -> u32
-    ensures { result ≡ cause_bit cause }
-{
-    cause.decode_bit()
-}
-
-pub fn is_unexpected(v: Verdict) -> bool
-    ensures { result ≡ is_unexpected v }
-{
-    v.is_unexpected()
-}

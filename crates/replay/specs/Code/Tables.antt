@@ -1,4 +1,4 @@
--- What the lent tables, store and area mean, and what the turns of a replay tell each other.
+-- What a bridge, store and area mean, and what the turns of a replay tell each other.
 use Rattle.std.specs.Prelude.{◌≡◌, List, ◌++◌, ℕ, suc, ◌-◌, ◌≤◌, ◌<◌, length, drop}
 use Rattle.std.proofs.Math.Option.{Option}
 use Rattle.std.proofs.lemmas.List.Edits.{sets}

@@ -21,30 +21,30 @@ loop-k-init c =
     let a = c.args in
     (refl, (omega arith, (zero-le, (refl, λ cells. turned_none a.slot a.q (bridge_of cells a.b.now) a.area.now))))
 
-pub read_turn-at-requires : goal.read_turn-at-requires
-read_turn-at-requires c =
+pub turn-at-requires : goal.turn-at-requires
+turn-at-requires c =
     let a = c.args in
     let s = a.b.now.settings in
-    let cnt : c.piece_count-count.result ≡ pieces_of s.reads a.q = c.piece_count-count.ensures ∙ ap (λ x. piece_count s.reads a.q.start.0 x) c.length_of-n.ensures.0 in
+    let cnt : c.piece_count-k-end.result ≡ pieces_of s.reads a.q = c.piece_count-k-end.ensures ∙ ap (λ x. piece_count s.reads a.q.start.0 x) c.length.ensures.0 in
     let i = c.loop-k.invariant in
     let w = available_within tag_count a.b.now.core.free in
     let h : 0 < available tag_count c.loop-k.b.core.free = omega (arith, cnt, i.1.0, c.loop-k-test.true, c.requires.1.0) in
     let r : c.loop-k.at + 16 ≤ length c.loop-k.area = omega (arith, cnt, w, i.1.1.0, i.1.1.1.0, c.loop-k-test.true, c.requires.1) in
-    (lowest_below c.loop-k.b.core.free h, (c.requires.0, (c.length_of-n.ensures.0, (c.length_of-n.ensures.1.1, (rw (i.0, ← c.piece_count-count.ensures) c.loop-k-test.true, r)))))
+    (lowest_below c.loop-k.b.core.free h, (c.requires.0, (c.length.ensures.0, (c.length.ensures.1.1, (rw (i.0, ← c.piece_count-k-end.ensures) c.loop-k-test.true, r)))))
 
 pub loop-k-preserved : goal.loop-k-preserved
 loop-k-preserved c =
     let a = c.args in
     let s = a.b.now.settings in
-    let cnt : c.piece_count-count.result ≡ pieces_of s.reads a.q = c.piece_count-count.ensures ∙ ap (λ x. piece_count s.reads a.q.start.0 x) c.length_of-n.ensures.0 in
+    let cnt : c.piece_count-k-end.result ≡ pieces_of s.reads a.q = c.piece_count-k-end.ensures ∙ ap (λ x. piece_count s.reads a.q.start.0 x) c.length.ensures.0 in
     let i = c.loop-k.invariant in
     let w = available_within tag_count a.b.now.core.free in
     let h : 0 < available tag_count c.loop-k.b.core.free = omega (arith, cnt, i.1.0, c.loop-k-test.true, c.requires.1.0) in
     let r : c.loop-k.at + 16 ≤ length c.loop-k.area = omega (arith, cnt, w, i.1.1.0, i.1.1.1.0, c.loop-k-test.true, c.requires.1) in
-    let t = c.read_turn-at in
+    let t = c.turn-at in
     let k = c.loop-k.k in
     let p = piece_of s.reads a.q k in
-    let shift = c.shift_of-shift.result in
+    let shift = c.shift_of.result in
     let m = memory_request false s.requester (lowest tag_count c.loop-k.b.core.free) (translated shift.base shift.target (axi p.first)).0 p.length in
     let z = packet_short m in
     let o = one_less c.loop-k.b.core.free h in
@@ -65,7 +65,7 @@ loop-k-preserved c =
           (
             y ∙ i.1.1.1.0,
             λ cells.
-                turned_more a.slot a.q (bridge_of cells a.b.now) a.area.now shift.base shift.target c.shift_of-shift.ensures.0 c.shift_of-shift.ensures.1 (bridge_of cells c.loop-k.b) (bridge_of cells t.new.b) c.loop-k.area t.new.area c.loop-k.at t.result k (i.1.1.1.1 cells) (tables cells) at area,
+                turned_more a.slot a.q (bridge_of cells a.b.now) a.area.now shift.base shift.target c.shift_of.ensures.0 c.shift_of.ensures.1 (bridge_of cells c.loop-k.b) (bridge_of cells t.new.b) c.loop-k.area t.new.area c.loop-k.at t.result k (i.1.1.1.1 cells) (tables cells) at area,
           ),
         ),
       ),
