@@ -9,7 +9,6 @@ mod text;
 use bridge::Bridge;
 use lines::{CELLS, EVENTS, say_events, say_last};
 use parts::{AREA_SIZE, STORE_SIZE};
-use records::stream::{fresh, is_reading};
 use records::{LONGEST, Reader};
 use replay::replay::replay;
 use std::io::Read;
@@ -39,13 +38,13 @@ impl Player {
     fn new() -> Player {
         Player {
             bridge: Bridge::new(address::example_settings()).bridge,
-            reader: fresh(),
+            reader: Reader::fresh(),
         }
     }
 
     // Whether the end or a fault was met.
     fn is_done(&self) -> bool {
-        !is_reading(self.reader.phase)
+        !self.reader.phase.is_reading()
     }
 
     // A block, and its lines. Each turn reads a byte or more, so as many turns as it has bytes are enough.
@@ -61,7 +60,7 @@ impl Player {
                 break;
             }
             let before = self.reader.events;
-            let x = replay(
+            let Ok(x) = replay(
                 self.bridge,
                 lent.store,
                 lent.area,
@@ -70,7 +69,9 @@ impl Player {
                 lent.held,
                 rest,
                 EVENTS,
-            );
+            ) else {
+                break;
+            };
             self.bridge = x.bridge;
             self.reader = x.reader;
             say_events(lines, lent.rows, before, x.played)?;

@@ -3,12 +3,12 @@
 // the last.
 #![tactic(auto)]
 
+use refusals::Refusal;
 use std::fmt;
 use streams::WriteFailed;
-use tlp::Written;
 use tlp::completion::{Completion, read_completion, write_completion};
 use tlp::request::{ConfigAddress, Request, Target, read_request, write_request};
-use traffic_text::line::print;
+use traffic_text::line::{number_in, print};
 
 // A space and two hex digits for each byte.
 #[derive(Clone, Copy)]
@@ -27,14 +27,16 @@ impl fmt::Display for Bytes<'_> {
 fn written(
     rt: &(impl Print + Eprint),
     name: &str,
-    w: Written,
+    w: Result<usize, Refusal>,
     area: &[u8],
 ) -> Result<(), WriteFailed> {
-    if w.number != 0 {
-        return print(rt, format_args!("{name}: {}", w.number));
+    match w {
+        Ok(n) => {
+            let bytes = Bytes(area.get(..n).unwrap_or(&[]));
+            print(rt, format_args!("{name}:{bytes}"))
+        }
+        Err(why) => print(rt, format_args!("{name}: {}", why.number())),
     }
-    let bytes = Bytes(area.get(..w.length).unwrap_or(&[]));
-    print(rt, format_args!("{name}:{bytes}"))
 }
 
 fn requests(rt: &(impl Print + Eprint), rows: &[(&str, Request)]) -> Result<(), WriteFailed> {
@@ -116,8 +118,8 @@ fn damaged<const N: usize>(
         rt,
         format_args!(
             "{name}: {} {}",
-            read_request(part).number(),
-            read_completion(part).number()
+            number_in(read_request(part)),
+            number_in(read_completion(part))
         ),
     )
 }

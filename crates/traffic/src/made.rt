@@ -56,7 +56,7 @@ fn made(h: Header) -> Answered {
 // first session value, zeros stand in its place.
 pub fn first_bridge(h: Header) -> Answered {
     let mut r = made(h);
-    r.bridge.core.ticks = word_at(h.bytes, 176);
-    r.bridge.core.session = word_at(h.more, WINDOW);
+    r.bridge.state.core.ticks = word_at(h.bytes, 176);
+    r.bridge.state.core.session = word_at(h.more, WINDOW);
     r
 }

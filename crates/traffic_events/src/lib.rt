@@ -2,16 +2,17 @@
 #![tactic(auto)]
 
 mod shown;
-mod ticks;
 
 use address::AxiAddress;
 use bridge::{Answer, Answered, Bridge};
 use burst::Burst;
+use ecam::Access;
+use events::tick::ticks_in;
 use shown::{After, Shown};
 use streams::WriteFailed;
 use traffic_file::record::{Kind, Record};
 use traffic_text::input::{flag_at, long_at, word_at};
-use traffic_text::line::{Area, Part, print};
+use traffic_text::line::{Area, Part, number_in, print};
 use traffic_text::sum::sum_of;
 
 // The store of a file, and the area.
@@ -37,6 +38,22 @@ fn burst_in(f: &[u8]) -> Burst {
     }
 }
 
+fn access_in(f: &[u8]) -> Access {
+    Access {
+        offset: long_at(f, 4),
+        write: flag_at(f, 12),
+        strobes: word_at(f, 17),
+        word: word_at(f, 13),
+    }
+}
+
+// So many ticks in a row, in one call; the answer is that of the last.
+fn ticks(b: Bridge, store: &mut [u8], times: u32) -> Answered {
+    let mut bridge = b;
+    let answer = ticks_in(&mut bridge.state, store, times);
+    Answered { bridge, answer }
+}
+
 impl Player {
     // Of a bridge that was just made: prints the log's first line.
     pub fn begin(
@@ -50,7 +67,7 @@ impl Player {
         };
         print(
             rt,
-            format_args!("new {} {}", made.answer.number, player.after()),
+            format_args!("new {} {}", number_in(made.answer), player.after()),
         )?;
         Ok(player)
     }
@@ -85,13 +102,7 @@ impl Player {
         self.take(match record.kind {
             Kind::Read => b.read(burst_in(f), area),
             Kind::Write => b.write(burst_in(f), record.bytes, area),
-            _ => b.config(
-                long_at(f, 4),
-                flag_at(f, 12),
-                word_at(f, 17),
-                word_at(f, 13),
-                area,
-            ),
+            _ => b.config(access_in(f), area),
         })
     }
 
@@ -101,7 +112,7 @@ impl Player {
         let f = record.fields;
         self.take(match record.kind {
             Kind::Completion => b.complete(store, record.bytes),
-            Kind::Tick => ticks::ticks(b, store, word_at(f, 4)),
+            Kind::Tick => ticks(b, store, word_at(f, 4)),
             Kind::Link => b.link(store, flag_at(f, 4)),
             _ => b.release(store, word_at(f, 4)),
         })
@@ -141,7 +152,7 @@ impl Player {
                     return Ok(());
                 };
                 let slot = word_at(record.fields, 4);
-                let number = self.bridge.take_number(store, slot);
+                let number = number_in(self.bridge.check_take(store, slot));
                 let bytes = self.bridge.look(store, slot);
                 let length = bytes.len();
                 let sum = sum_of(bytes);

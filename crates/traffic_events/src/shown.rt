@@ -1,6 +1,7 @@
 // What the lines of the bridge's events show.
-use bridge::{Answer, Response};
+use bridge::{Accepted, Answer, Response};
 use std::fmt;
+use traffic_text::line::number_in;
 
 // An answer, or its response, as the log shows it.
 #[derive(Clone, Copy)]
@@ -18,16 +19,20 @@ impl fmt::Display for Shown<Response> {
     }
 }
 
-// The session number stands there where it is not 0.
+// The session number stands there where it is not 0. A refused event shows its refusal's response, and zeros.
 impl fmt::Display for Shown<Answer> {
     fn fmt<W: fmt::Write>(&self, f: &mut fmt::Formatter<W>) -> fmt::Result {
-        let a = self.0;
+        let number = number_in(self.0);
+        let a = match self.0 {
+            Ok(a) => a,
+            Err(why) => Accepted::sent(why.response(), 0, 0),
+        };
         let response = Shown(a.response);
         let session = a.figures.session;
         write!(
             f,
-            "{} {response} slot {} sent {} data {:08x}",
-            a.number, a.slot, a.length, a.word
+            "{number} {response} slot {} sent {} data {:08x}",
+            a.slot, a.length, a.word
         )?;
         if session != 0 {
             write!(f, " session {session}")?;

@@ -1,14 +1,14 @@
 // Header writers and readers: each plays one record, without the bridge, and prints its line.
 #![tactic(auto)]
 
+use refusals::Refusal;
 use std::fmt;
 use streams::WriteFailed;
-use tlp::Written;
-use tlp::completion::{Completion, CompletionRead, read_completion, write_completion};
-use tlp::request::{ConfigAddress, Request, RequestRead, Target, read_request, write_request};
+use tlp::completion::{Completion, read_completion, write_completion};
+use tlp::request::{ConfigAddress, Request, Target, read_request, write_request};
 use traffic_file::record::{Kind, Record};
 use traffic_text::input::{byte_at, flag_at, long_at, word_at};
-use traffic_text::line::{Area, print};
+use traffic_text::line::{Area, number_in, print};
 
 fn config_in(f: &[u8]) -> ConfigAddress {
     ConfigAddress {
@@ -111,13 +111,15 @@ fn say_written(
     rt: &(impl Print + Eprint),
     event: u64,
     kind: Kind,
-    w: Written,
+    w: Result<usize, Refusal>,
     area: &[u8],
 ) -> Result<(), WriteFailed> {
+    let number = number_in(w);
+    let length = w.unwrap_or(0);
     let area = Area(area);
     print(
         rt,
-        format_args!("{event} {kind} {} sent {} {area}", w.number, w.length),
+        format_args!("{event} {kind} {number} sent {length} {area}"),
     )
 }
 
@@ -126,7 +128,7 @@ fn say_read<T>(
     rt: &(impl Print + Eprint),
     event: u64,
     kind: Kind,
-    found: Result<T, u32>,
+    found: Result<T, Refusal>,
 ) -> Result<(), WriteFailed>
 where
     T: Copy,
@@ -137,23 +139,7 @@ where
             rt,
             format_args!("{event} {kind} 0 fields {}", Shown(header)),
         ),
-        Err(number) => print(rt, format_args!("{event} {kind} {number}")),
-    }
-}
-
-fn request_read(bytes: &[u8]) -> Result<Request, u32> {
-    let r = read_request(bytes);
-    match r {
-        RequestRead::Header(q) => Ok(q),
-        RequestRead::Malformed => Err(r.number()),
-    }
-}
-
-fn completion_read(bytes: &[u8]) -> Result<Completion, u32> {
-    let r = read_completion(bytes);
-    match r {
-        CompletionRead::Header(c) => Ok(c),
-        CompletionRead::Malformed => Err(r.number()),
+        Err(why) => print(rt, format_args!("{event} {kind} {}", why.number())),
     }
 }
 
@@ -176,8 +162,8 @@ pub fn play_header(
             let w = write_completion(completion_in(f), part);
             say_written(rt, event, kind, w, part)
         }
-        (Kind::RequestReader, _) => say_read(rt, event, kind, request_read(record.bytes)),
-        (Kind::CompletionReader, _) => say_read(rt, event, kind, completion_read(record.bytes)),
+        (Kind::RequestReader, _) => say_read(rt, event, kind, read_request(record.bytes)),
+        (Kind::CompletionReader, _) => say_read(rt, event, kind, read_completion(record.bytes)),
         _ => Ok(()),
     }
 }

@@ -1,6 +1,10 @@
 // A line of the log, made in a buffer and printed whole.
+ghost use Rattle.std.specs.Prelude.{◌≡◌};
+ghost use Rattle.refusals.specs.Refusals.{number_in};
+
 use crate::sum::sum_of;
 use arrayvec::ArrayString;
+use refusals::Refusal;
 use std::fmt;
 use std::fmt::{Display, Write};
 use std::io::writer;
@@ -14,6 +18,16 @@ pub fn print(rt: &(impl Print + Eprint), line: impl Display + Drop) -> Result<()
     let mut text = ArrayString::<ROOM>::new();
     let _ = writeln!(text, "{line}");
     streams::write_all(&mut writer(rt), rt, text.as_str().as_bytes())
+}
+
+// The number of a call's refusal, 0 where it is accepted.
+pub fn number_in<T: Copy>(answer: Result<T, Refusal>) -> u32
+    ensures { result ≡ number_in answer }
+{
+    match answer {
+        Ok(_) => 0,
+        Err(why) => why.number(),
+    }
 }
 
 // An area's checksum.

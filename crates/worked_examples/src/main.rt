@@ -4,9 +4,10 @@
 use address::{AxiAddress, Settings};
 use bridge::{Answer, Bridge, Response};
 use burst::Burst;
+use ecam::Access;
 use parts::{AREA_SIZE, STORE_SIZE};
 use streams::WriteFailed;
-use traffic_text::line::print;
+use traffic_text::line::{number_in, print};
 
 // What the bridge is lent.
 #[derive(Drop)]
@@ -35,18 +36,23 @@ fn settings(bits: u32, limit: u32) -> Settings {
 
 // An accepted call sent exactly these bytes.
 fn sent(a: Answer, area: &[u8], expected: &[u8]) -> bool {
-    a.number == 0 && a.length == expected.len() && area.starts_with(expected)
+    matches!(a, Ok(x) if x.length == expected.len()) && area.starts_with(expected)
 }
 
-// The refusal number of a call, 0 where it is accepted.
-fn number(a: Answer) -> u32 {
-    a.number
+// A configuration read.
+fn config_read(offset: u64) -> Access {
+    Access {
+        offset,
+        write: false,
+        strobes: 0,
+        word: 0,
+    }
 }
 
 // The bridge, its counter at the last value.
 fn at_last_tick(b: Bridge) -> Bridge {
     let mut last = b;
-    last.core.ticks = u32::MAX;
+    last.state.core.ticks = u32::MAX;
     last
 }
 
@@ -72,21 +78,27 @@ impl Lent<'_> {
     }
 
     fn read_number(&mut self, b: Bridge, q: Burst) -> u32 {
-        number(b.read(q, self.area).answer)
+        number_in(b.read(q, self.area).answer)
     }
 
     fn config_sends(&mut self, b: Bridge, offset: u64, expected: &[u8]) -> bool {
-        let a = b.config(offset, false, 0, 0, self.area).answer;
+        let a = b.config(config_read(offset), self.area).answer;
         sent(a, self.area, expected)
     }
 
     fn config_number(&mut self, b: Bridge, offset: u64) -> u32 {
-        number(b.config(offset, false, 0, 0, self.area).answer)
+        number_in(b.config(config_read(offset), self.area).answer)
     }
 
     // The bridge once local word 018 holds these bus numbers.
     fn with_buses(&mut self, b: Bridge, word: u32) -> Bridge {
-        let c = b.config(0x018, true, 0xF, word, self.area).bridge;
+        let a = Access {
+            offset: 0x018,
+            write: true,
+            strobes: 0xF,
+            word,
+        };
+        let c = b.config(a, self.area).bridge;
         c.release(self.store, 8).bridge
     }
 
@@ -101,13 +113,12 @@ impl Lent<'_> {
 
     // The refusal number of a release of slot 0.
     fn release_number(&self, b: Bridge) -> u32 {
-        number(b.release(self.store, 0).answer)
+        number_in(b.release(self.store, 0).answer)
     }
 
     // The read in slot 0 is finished, with SLVERR.
     fn is_failed(&self, b: Bridge) -> bool {
-        let a = b.release(self.store, 0).answer;
-        a.number == 0 && a.response == Response::Slverr
+        matches!(b.release(self.store, 0).answer, Ok(x) if x.response == Response::Slverr)
     }
 
     // A completion of count 6 and lower address 3E fills the slot's six bytes.
@@ -116,7 +127,7 @@ impl Lent<'_> {
             b"\x4A\x00\x00\x02\x00\x00\x00\x06\x00\x00\x00\x3E\x00\x00\x11\x22\x33\x44\x55\x66";
         let d = b.complete(self.store, packet);
         let part = d.bridge.look(self.store, 0);
-        number(d.answer) == 0 && part == b"\x11\x22\x33\x44\x55\x66".as_slice()
+        d.answer.is_ok() && part == b"\x11\x22\x33\x44\x55\x66".as_slice()
     }
 }
 
