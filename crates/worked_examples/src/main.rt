@@ -2,12 +2,12 @@
 #![tactic(auto)]
 
 use address::{AxiAddress, Settings};
-use bridge::{Answer, Bridge, Response};
+use bridge::{Answer, Bridge, Refusal, Response};
 use burst::Burst;
 use ecam::Access;
 use parts::{AREA_SIZE, STORE_SIZE};
 use streams::WriteFailed;
-use traffic_text::line::{number_in, print};
+use traffic_text::line::print;
 
 // What the bridge is lent.
 #[derive(Drop)]
@@ -77,8 +77,9 @@ impl Lent<'_> {
         sent(a, self.area, expected)
     }
 
-    fn read_number(&mut self, b: Bridge, q: Burst) -> u32 {
-        number_in(b.read(q, self.area).answer)
+    // Why a read is refused.
+    fn read_refusal(&mut self, b: Bridge, q: Burst) -> Option<Refusal> {
+        b.read(q, self.area).answer.err()
     }
 
     fn config_sends(&mut self, b: Bridge, offset: u64, expected: &[u8]) -> bool {
@@ -86,8 +87,9 @@ impl Lent<'_> {
         sent(a, self.area, expected)
     }
 
-    fn config_number(&mut self, b: Bridge, offset: u64) -> u32 {
-        number_in(b.config(config_read(offset), self.area).answer)
+    // Why a configuration read is refused.
+    fn config_refusal(&mut self, b: Bridge, offset: u64) -> Option<Refusal> {
+        b.config(config_read(offset), self.area).answer.err()
     }
 
     // The bridge once local word 018 holds these bus numbers.
@@ -111,9 +113,9 @@ impl Lent<'_> {
         c
     }
 
-    // The refusal number of a release of slot 0.
-    fn release_number(&self, b: Bridge) -> u32 {
-        number_in(b.release(self.store, 0).answer)
+    // Why a release of slot 0 is refused.
+    fn release_refusal(&self, b: Bridge) -> Option<Refusal> {
+        b.release(self.store, 0).answer.err()
     }
 
     // The read in slot 0 is finished, with SLVERR.
@@ -173,12 +175,13 @@ fn w5(m: &mut Lent) -> bool {
         b,
         incr(0x12340FFE, 2, 1),
         b"\x00\x00\x00\x01\x00\x00\x00\x0C\x56\x71\x0F\xFC",
-    ) && m.read_number(b, incr(0x12340FFC, 2, 2)) == 3
+    ) && m.read_refusal(b, incr(0x12340FFC, 2, 2)) == Some(Refusal::WrongBurst)
 }
 
 fn w6(m: &mut Lent) -> bool {
     let b = m.example();
-    m.read_number(b, incr(0x1234FFFC, 2, 1)) == 0 && m.read_number(b, incr(0x12350000, 2, 1)) == 2
+    m.read_refusal(b, incr(0x1234FFFC, 2, 1)).is_none()
+        && m.read_refusal(b, incr(0x12350000, 2, 1)) == Some(Refusal::NoWindow)
 }
 
 fn w7(m: &mut Lent) -> bool {
@@ -194,15 +197,16 @@ fn w7(m: &mut Lent) -> bool {
 fn w8(m: &mut Lent) -> bool {
     let b = m.up(settings(1, 65535));
     let c = m.with_buses(b, 0x00010100);
-    m.config_number(c, 0x001FFFFC) == 11 && m.config_number(c, 0x00200000) == 9
+    m.config_refusal(c, 0x001FFFFC) == Some(Refusal::WrongDevice)
+        && m.config_refusal(c, 0x00200000) == Some(Refusal::OffsetOver)
 }
 
 fn w9(m: &mut Lent) -> bool {
     let b = Bridge::new(settings(8, 65535)).bridge;
     let crossed = m.with_buses(b, 0x00020300);
-    m.config_number(b, 0) == 0
-        && m.config_number(b, 0x00100000) == 10
-        && m.config_number(crossed, 0x00300000) == 10
+    m.config_refusal(b, 0).is_none()
+        && m.config_refusal(b, 0x00100000) == Some(Refusal::NotRouted)
+        && m.config_refusal(crossed, 0x00300000) == Some(Refusal::NotRouted)
 }
 
 // With the time limit 2, a read is sent at the counter's last value.
@@ -211,7 +215,7 @@ fn w10(m: &mut Lent) -> bool {
     let sent = m.read(b, incr(0x12340ABC, 2, 1));
     let zero = m.ticked(sent, 1);
     let one = m.ticked(zero, 1);
-    m.release_number(zero) == 14 && m.is_failed(one)
+    m.release_refusal(zero) == Some(Refusal::NotFinished) && m.is_failed(one)
 }
 
 // 32 tags are enough for 4,096 bytes at limit 128; with one at rest after a timeout, they are too few.
@@ -221,7 +225,9 @@ fn w11(m: &mut Lent) -> bool {
     let sent = m.read(b, incr(0x12340ABC, 2, 1));
     let late = m.ticked(sent, 65535);
     let rests = late.release(m.store, 0).bridge;
-    m.read_number(b, q) == 0 && m.is_failed(late) && m.read_number(rests, q) == 7
+    m.read_refusal(b, q).is_none()
+        && m.is_failed(late)
+        && m.read_refusal(rests, q) == Some(Refusal::FewTags)
 }
 
 // Device 5 on bus 2, behind a switch on bus 1.
