@@ -22,7 +22,7 @@ fn read_pieces(b: &mut State, slot: usize, q: Burst, area: &mut [u8]) -> usize
     ensures area { (cells : List ℕ) → area.new ≡ filled (read_sent slot q (bridge_of cells b.old) (pieces_of b.old.settings.reads q)) area.old }
 {
     let read = Opening {
-        slot,
+        slot: slot as u32,
         shift: shift_of(b.settings.windows, q.start),
         burst: q,
         bytes: q.length(),

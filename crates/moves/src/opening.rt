@@ -21,7 +21,7 @@ use parts::{OPEN, Pending, SLOT_SIZE, SlotRow, State};
 // A memory read that is being opened: its slot, the shift of its window, its burst, and how many bytes that covers.
 #[derive(Clone, Copy, Debug, PartialEq, Eq)]
 pub struct Opening {
-    pub slot: usize,
+    pub slot: u32,
     pub shift: Shift,
     pub burst: Burst,
     pub bytes: u32,
@@ -30,7 +30,7 @@ pub struct Opening {
 impl Opening {
     // The k-th piece is opened, and its header sent; where the next packet goes.
     pub fn turn(self, b: &mut State, k: u32, area: &mut [u8], at: usize) -> usize
-        requires { (lowest tag_count b.old.core.free < tag_count) × ((self.slot < slot_count) × ((self.bytes ≡ length_of self.burst) × ((self.burst.start.0 + self.bytes ≤ 2 ^ 64) × ((k < piece_count b.old.settings.reads self.burst.start.0 self.bytes) × (at + 16 ≤ length area.old))))) }
+        requires { (lowest tag_count b.old.core.free < tag_count) × ((self.bytes ≡ length_of self.burst) × ((self.burst.start.0 + self.bytes ≤ 2 ^ 64) × ((k < piece_count b.old.settings.reads self.burst.start.0 self.bytes) × (at + 16 ≤ length area.old)))) }
         ensures tables { (cells : List ℕ) → bridge_of cells b.new ≡ opened (memory_pending self.slot (place_in self.burst (piece_of b.old.settings.reads self.burst k)) (piece_of b.old.settings.reads self.burst k).length (translated self.shift.base self.shift.target (axi (piece_of b.old.settings.reads self.burst k).first)).0) (bridge_of cells b.old) }
         ensures at { result ≡ at + length (packet (memory_request false b.old.settings.requester (lowest tag_count b.old.core.free) (translated self.shift.base self.shift.target (axi (piece_of b.old.settings.reads self.burst k).first)).0 (piece_of b.old.settings.reads self.burst k).length) []) }
         ensures area { area.new ≡ paste area.old at (packet (memory_request false b.old.settings.requester (lowest tag_count b.old.core.free) (translated self.shift.base self.shift.target (axi (piece_of b.old.settings.reads self.burst k).first)).0 (piece_of b.old.settings.reads self.burst k).length) []) (length (packet (memory_request false b.old.settings.requester (lowest tag_count b.old.core.free) (translated self.shift.base self.shift.target (axi (piece_of b.old.settings.reads self.burst k).first)).0 (piece_of b.old.settings.reads self.burst k).length) [])) }
@@ -43,7 +43,7 @@ impl Opening {
         let end = at + h.length;
         area[at..end].copy_from_slice(&h.bytes[..h.length]);
         let place = (p.first - start) as u32;
-        open(b, Pending::memory(self.slot as u32, place, p.length, a.0));
+        open(b, Pending::memory(self.slot, place, p.length, a.0));
         end
     }
 }

@@ -29,7 +29,7 @@ turn-at-requires c =
     let w = available_within tag_count a.b.now.core.free in
     let h : 0 < available tag_count c.loop-k.b.core.free = omega (arith, cnt, i.1.0, c.loop-k-test.true, c.requires.1.0) in
     let r : c.loop-k.at + 16 ≤ length c.loop-k.area = omega (arith, cnt, w, i.1.1.0, i.1.1.1.0, c.loop-k-test.true, c.requires.1) in
-    (lowest_below c.loop-k.b.core.free h, (c.requires.0, (c.length.ensures.0, (c.length.ensures.1.1, (rw (i.0, ← c.piece_count-k-end.ensures) c.loop-k-test.true, r)))))
+    (lowest_below c.loop-k.b.core.free h, (c.length.ensures.0, (c.length.ensures.1.1, (rw (i.0, ← c.piece_count-k-end.ensures) c.loop-k-test.true, r))))
 
 pub loop-k-preserved : goal.loop-k-preserved
 loop-k-preserved c =
