@@ -75,14 +75,6 @@ pub count_no_bytes : (l a : ℕ) → 0 < l → piece_count l a 0 ≡ 1
 unfolding piece_count
 count_no_bytes l a h = let m : (a + 0 - 1) / l ≤ a / l = div_mono l (a + 0 - 1) a h (omega arith) in omega arith
 
--- no more pieces than bytes
-pub count_small : (r n l : ℕ) → r < l → 0 < n → (r + (n - 1)) / l + 1 ≤ n
-count_small r zero l h g = absurd (omega arith)
-count_small r (suc n) zero h g = absurd (omega arith)
-count_small r (suc n) (suc l) h g =
-    let t = (div-lt_iff_lt-mul {k = suc l} {x = r + (suc n - 1)} {y = suc n} (omega arith)).1 (omega arith) in
-    omega arith
-
 -- ## The pieces as the code has them
 
 -- the first piece

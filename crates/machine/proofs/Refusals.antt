@@ -127,11 +127,6 @@ data_length q len e = eqb-true len (length_of q) (data_by_lem (eqb len (length_o
 
 -- ---- reads
 
-pub read_number_lem : (b : Bridge) (q : Burst) (room : ℕ) {slot n : ℕ} → slot ≡ free_slot b → n ≡ read_number b.settings b.core slot q room
-    → n ≡ read_refusal b q room
-unfolding read_refusal
-read_number_lem b q room e h = h ∙ ap (λ (x : ℕ). read_number b.settings b.core x q room) e
-
 pub read_refused_lem : (b : Bridge) (q : Burst) (area : List ℕ) (n : ℕ) → n ≡ read_refusal b q (length area) → (n ≡ 0 → ⊥)
     → (refused n b ≡ read_step b q (length area)) × (area ≡ read_area b q area)
 unfolding read_step read_area

@@ -1,7 +1,7 @@
 // The bytes of an error message.
-ghost use Rattle.std.specs.Prelude.{◌≡◌, ℕ, List, length, true};
-ghost use Rattle.messages.specs.Layout.{error_bit, code_of, entry_of, is_error_message};
-ghost use Rattle.messages.specs.Code.Message.{code_number, type_number, is_code, is_laid, reads, IsMessage};
+ghost use Rattle.std.specs.Prelude.{◌≡◌, ◌≤◌, ℕ, List, length, true};
+ghost use Rattle.messages.specs.Layout.{error_bit, type_of, is_error_code, code_of, entry_of};
+ghost use Rattle.messages.specs.Code.Message.{code_for, is_laid, reads, IsMessage};
 
 use refusals::Refusal;
 
@@ -24,21 +24,21 @@ pub enum ErrorCode {
 }
 
 impl ErrorCode {
-    // ERR_COR, ERR_NONFATAL, ERR_FATAL; no other byte is an error's code.
-    fn of(code: u8) -> Option<ErrorCode>
-        ensures { is_code code result }
+    // ERR_COR and ERR_NONFATAL; any other is taken as ERR_FATAL.
+    pub fn of(code: u32) -> ErrorCode
+        ensures { result ≡ code_for code }
     {
         match code {
-            0x30 => Some(ErrorCode::Correctable),
-            0x31 => Some(ErrorCode::NonFatal),
-            0x33 => Some(ErrorCode::Fatal),
-            _ => None,
+            0x30 => ErrorCode::Correctable,
+            0x31 => ErrorCode::NonFatal,
+            _ => ErrorCode::Fatal,
         }
     }
 
     // Its decode bit.
+    #[tactic(auto)]
     pub fn decode_bit(self) -> u32
-        ensures { result ≡ error_bit (code_number self) }
+        ensures { (n : ℕ) → self ≡ code_for n → result ≡ error_bit n }
     {
         match self {
             ErrorCode::Correctable => common::CORRECTABLE,
@@ -48,8 +48,10 @@ impl ErrorCode {
     }
 
     // The type that 154 shows.
+    #[tactic(auto)]
     fn shown_type(self) -> u32
-        ensures { result ≡ type_number self }
+        ensures shown { (n : ℕ) → self ≡ code_for n → result ≡ type_of n }
+        ensures small { result ≤ 2 }
     {
         match self {
             ErrorCode::Correctable => 0,
@@ -57,6 +59,21 @@ impl ErrorCode {
             ErrorCode::Fatal => 2,
         }
     }
+}
+
+// ERR_COR, ERR_NONFATAL, ERR_FATAL; no other byte is an error's code.
+fn is_error_code(code: u32) -> bool
+    ensures { result ≡ is_error_code code }
+{
+    matches!(code, 0x30 | 0x31 | 0x33)
+}
+
+// The byte of a message's code.
+pub fn code_of(s: &[u8]) -> u32
+    requires { 16 ≤ length s.now }
+    ensures { result ≡ code_of s.now }
+{
+    u32::from(s[7])
 }
 
 // The bytes round the requester ID, the tag and the code.
@@ -74,19 +91,27 @@ pub struct ErrorMessage {
 }
 
 impl ErrorMessage {
+    // That of some bytes, whether they are laid out as one or not.
+    pub fn of(s: &[u8]) -> ErrorMessage
+        requires { 16 ≤ length s.now }
+        ensures { IsMessage s.now result }
+    {
+        ErrorMessage {
+            requester: u16::from_be_bytes([s[4], s[5]]),
+            code: ErrorCode::of(code_of(s)),
+        }
+    }
+
     // Reads the 16 bytes of a message. Any tag is taken; a byte that the layout has as 0 must be 0.
     #[tactic(auto, using(crate::proofs::Bytes::not_laid, crate::proofs::Bytes::no_code, crate::proofs::Bytes::taken))]
     pub fn read(s: &[u8]) -> Result<ErrorMessage, Refusal>
         ensures { reads s.now result }
     {
-        if !is_laid(s) {
-            return Err(Refusal::Malformed);
+        if is_laid(s) && is_error_code(code_of(s)) {
+            Ok(ErrorMessage::of(s))
+        } else {
+            Err(Refusal::Malformed)
         }
-        let code = ErrorCode::of(s[7]).ok_or(Refusal::Malformed)?;
-        Ok(ErrorMessage {
-            requester: u16::from_be_bytes([s[4], s[5]]),
-            code,
-        })
     }
 
     // The decode bit of its code.

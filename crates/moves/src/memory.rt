@@ -1,20 +1,22 @@
 // What refuses a memory burst.
-ghost use Rattle.std.specs.Prelude.{◌≡◌, List, ℕ, Ok};
+ghost use Rattle.std.specs.Prelude.{◌≡◌, List, ℕ, Ok, Some};
 ghost use Rattle.refusals.specs.Refusals.{number_in};
+ghost use Rattle.parts.specs.Code.Struct.{core_from, slot_or_none};
+ghost use Rattle.machine.specs.Refusals.{read_number};
 ghost use Rattle.machine.specs.State.{free_slot};
 ghost use Rattle.machine.specs.Memory.{read_refusal, write_refusal};
 ghost use Rattle.machine.specs.Code.Tables.{bridge_of};
 
 use burst::Burst;
 use packets::no_window;
-use parts::{AREA_SIZE, OPEN, State};
+use parts::{AREA_SIZE, OPEN, SLOTS, State};
 use refusals::Refusal;
 
-// The slot of a read: the lowest that is free.
-#[tactic(auto, unfolding(machine::specs::Memory::read_refusal))]
-pub fn read_slot(b: &State, q: Burst, room: usize) -> Result<usize, Refusal>
-    ensures number { (cells : List ℕ) → number_in result ≡ read_refusal (bridge_of cells b.now) q room }
-    ensures slot { (cells : List ℕ) (k : ℕ) → result ≡ Ok k → k ≡ free_slot (bridge_of cells b.now) }
+// The slot of a read, whose lowest free slot is given, if there is one.
+#[tactic(auto)]
+pub fn check_read(b: &State, slot: Option<usize>, q: Burst, room: usize) -> Result<usize, Refusal>
+    ensures number { (cells : List ℕ) → number_in result ≡ read_number b.now.settings (core_from b.now.core cells) (slot_or_none slot) q room }
+    ensures slot { (k : ℕ) → result ≡ Ok k → slot ≡ Some k }
 {
     if room < AREA_SIZE {
         return Err(Refusal::TooShort);
@@ -29,12 +31,24 @@ pub fn read_slot(b: &State, q: Burst, room: usize) -> Result<usize, Refusal>
     if b.core.config.state == OPEN && !b.core.config.write {
         return Err(Refusal::ConfigBusy);
     }
-    let slot = b.free_slot().ok_or(Refusal::SlotsUsed)?;
+    let k = match slot {
+        Some(k) if k < SLOTS => k,
+        _ => return Err(Refusal::SlotsUsed),
+    };
     let pieces = burst::piece_count(b.settings.reads, q.start.0, q.length());
     if tags::available(b.core.free) < pieces {
         return Err(Refusal::FewTags);
     }
-    Ok(slot)
+    Ok(k)
+}
+
+// The slot of a read: the lowest that is free.
+#[tactic(auto, unfolding(machine::specs::Memory::read_refusal))]
+pub fn read_slot(b: &State, q: Burst, room: usize) -> Result<usize, Refusal>
+    ensures number { (cells : List ℕ) → number_in result ≡ read_refusal (bridge_of cells b.now) q room }
+    ensures slot { (cells : List ℕ) (k : ℕ) → result ≡ Ok k → k ≡ free_slot (bridge_of cells b.now) }
+{
+    check_read(b, b.free_slot(), q, room)
 }
 
 // Whether a write of len bytes may be sent.

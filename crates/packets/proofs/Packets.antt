@@ -109,16 +109,6 @@ pub fill_more : (s p area : List ℕ) → paste (filled s area) (length s) p (le
 fill_more s p area =
     rw (take-append_seam s (drop (length s) area), take-length p, drop-append-add s (drop (length s) area) (length p), drop-drop (length p) (length s) area, length-append s p)
 
-pub fill_none : (area : List ℕ) → area ≡ filled [] area
-fill_none area = refl
-
--- bytes whose first n are the header
-pub paste_head : (d : List ℕ) (at n : ℕ) (b h : List ℕ) → take n b ≡ h → n ≡ length h → paste d at b n ≡ paste d at h (length h)
-paste_head d at n b h e k =
-    ap (λ (x : List ℕ). take at d ++ x ++ drop (at + n) d) e
-    ∙ ap (λ (m : ℕ). take at d ++ h ++ drop (at + m) d) k
-    ∙ ap (λ (x : List ℕ). take at d ++ x ++ drop (at + length h) d) (sym (take-length h))
-
 -- a header and then its payload
 pub paste_two : (d : List ℕ) (at : ℕ) (h w : List ℕ) → at ≤ length d
     → paste (paste d at h (length h)) (at + length h) w (length w) ≡ paste d at (h ++ w) (length (h ++ w))

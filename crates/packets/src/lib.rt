@@ -38,7 +38,7 @@ impl Shift {
 }
 
 // One of six numbers, by cases, so that the compiler needs no copy of the table in memory.
-// Kept: with an index an access in a loop takes 4.0 ns an address in window 0 and 5.5 in all, and so 1.1 and 2.8 (bench/run.sh).
+// Kept: by an index, an access in a loop takes 4.0 ns with addresses of window 0 alone and 5.5 with those of all; by cases 1.1 and 2.8 (bench/run.sh).
 fn one_of(xs: [u64; 6], i: u32) -> u64
     requires { i < 6 }
     ensures { result ≡ get_or xs i 0 }
@@ -85,7 +85,7 @@ pub fn memory_request(write: bool, requester: u32, tag: u32, a: PcieAddress, n: 
 }
 
 // A header in the first bytes of an array, the others zero; none for a request outside its ranges.
-// Kept: there is no heap, so a header of 12 or 16 bytes is handed on by value with its length.
+// Kept: `head_of` says of both what they are, and puts zeros after the header, which a row that grows would not keep.
 #[derive(Clone, Copy, Debug, PartialEq, Eq)]
 pub struct Head {
     pub bytes: [u8; 16],
@@ -120,22 +120,48 @@ pub fn put_packet(requester: u32, a: PcieAddress, bytes: &[u8], area: &mut [u8],
     at + need
 }
 
+// A memory write that is sent: the most bytes of a piece, who sends it, the shift of its window, its burst, and how many bytes
+// that covers.
+#[derive(Clone, Copy, Debug, PartialEq, Eq)]
+pub struct Sending {
+    pub limit: u32,
+    pub requester: u32,
+    pub shift: Shift,
+    pub burst: Burst,
+    pub bytes: u32,
+}
+
+impl Sending {
+    // The packet of the k-th piece, and where the next one goes.
+    pub fn turn(self, k: u32, bytes: &[u8], area: &mut [u8], at: usize) -> usize
+        requires { (self.bytes ≡ length_of self.burst) × ((self.bytes ≤ 4096) × ((self.burst.start.0 + self.bytes ≤ 2 ^ 64) × ((k < piece_count self.limit self.burst.start.0 self.bytes) × ((self.bytes ≤ length bytes.now) × (at ≤ length area.old))))) }
+        ensures { Put area.old at (packet (memory_request true self.requester 0 (translated self.shift.base self.shift.target (axi (piece_of self.limit self.burst k).first)).0 (piece_of self.limit self.burst k).length) (words_of (translated self.shift.base self.shift.target (axi (piece_of self.limit self.burst k).first)).0 (take (piece_of self.limit self.burst k).length (drop (place_in self.burst (piece_of self.limit self.burst k)) bytes.now)))) result area.new }
+    {
+        let start = self.burst.start.0;
+        let piece = burst::piece_at(self.limit, start, self.bytes, k);
+        let a = self.shift.translate(AxiAddress(piece.first));
+        let from = (piece.first - start) as usize;
+        let end = from + piece.length as usize;
+        put_packet(self.requester, a, &bytes[from..end], area, at)
+    }
+}
+
 // The packets of every piece, in address order; how many bytes they are.
 pub fn write_pieces(s: Settings, q: Burst, bytes: &[u8], area: &mut [u8]) -> usize
     requires { length_of q ≤ length bytes.now }
     ensures { (result ≡ length (write_bytes s q bytes.now (length area.old))) × (area.new ≡ filled (write_bytes s q bytes.now (length area.old)) area.old) }
 {
-    let start = q.start;
-    let shift = shift_of(s.windows, start);
     let n = q.length();
-    let count = burst::piece_count(s.writes, start.0, n);
+    let sending = Sending {
+        limit: s.writes,
+        requester: s.requester,
+        shift: shift_of(s.windows, q.start),
+        burst: q,
+        bytes: n,
+    };
     let mut at = 0;
-    for k in 0..count {
-        let piece = burst::piece_at(s.writes, start.0, n, k);
-        let a = shift.translate(AxiAddress(piece.first));
-        let from = (piece.first - start.0) as usize;
-        let end = from + piece.length as usize;
-        at = put_packet(s.requester, a, &bytes[from..end], area, at);
+    for k in 0..burst::piece_count(s.writes, q.start.0, n) {
+        at = sending.turn(k, bytes, area, at);
     }
     at
 }

@@ -1,11 +1,13 @@
 // The configuration slot: what refuses an access, and what it holds when one is finished.
-ghost use Rattle.std.specs.Prelude.{◌≡◌, ℕ, List, Ok};
+ghost use Rattle.std.specs.Prelude.{◌≡◌, ℕ, List, Ok, cond};
 ghost use Rattle.common.specs.Decode.{cfg_timeout};
 ghost use Rattle.refusals.specs.Refusals.{number_in};
 ghost use Rattle.ecam.specs.declared.access.Route as code;
+ghost use Rattle.ecam.specs.Route as routes;
 ghost use Rattle.ecam.specs.Route.{route};
+ghost use Rattle.ecam.specs.Request.{data_word};
 ghost use Rattle.ecam.specs.Code.Struct.{registers_from};
-ghost use Rattle.ecam.specs.Code.Routed.{route_in};
+ghost use Rattle.ecam.specs.Code.Routed.{outcome, route_in};
 ghost use Rattle.verdict.specs.declared.Verdict.TheVariants.{Failed};
 ghost use Rattle.verdict.specs.Verdict.{slverr};
 ghost use Rattle.parts.specs.Cores.{with_config, raised_core, free_config, open_config};
@@ -24,6 +26,13 @@ pub fn goes_out(x: Route) -> bool
     ensures { result ≡ goes_out (route_in x) }
 {
     matches!(x, Route::Type0 | Route::Type1)
+}
+
+// The data word of an answer: 0 for a write.
+pub fn config_word(write: bool, payload: &[u8]) -> u32
+    ensures { result ≡ cond write 0 (data_word payload.now) }
+{
+    if write { 0 } else { ecam::data_word(payload) }
 }
 
 impl ConfigSlot {
@@ -67,7 +76,7 @@ impl ConfigSlot {
 
     // What it holds after UR, CRS or CA.
     #[tactic(auto, unfolding(crate::specs::Access::config_answer))]
-    fn failed(self, why: Cause) -> ConfigSlot
+    pub fn failed(self, why: Cause) -> ConfigSlot
         ensures { (payload : List ℕ) → result ≡ config_answer self payload (Failed why) }
     {
         match why {
@@ -76,23 +85,14 @@ impl ConfigSlot {
         }
     }
 
-    // What it holds after a completion. The data word of a write is 0.
+    // What it holds after a completion.
     #[tactic(auto, unfolding(crate::specs::Access::config_answer))]
     pub fn answer(self, payload: &[u8], v: Verdict) -> ConfigSlot
         ensures { result ≡ config_answer self payload.now v }
     {
         match v {
             Verdict::Unexpected => self,
-            Verdict::Good(_) => {
-                self.done(
-                    0,
-                    if self.write {
-                        0
-                    } else {
-                        ecam::data_word(payload)
-                    },
-                )
-            }
+            Verdict::Good(_) => self.done(0, config_word(self.write, payload)),
             Verdict::Poisoned(_) => self.done(2, 0),
             Verdict::Failed(why) => self.failed(why),
         }
@@ -111,12 +111,12 @@ impl ConfigSlot {
 }
 
 impl Core {
-    // Where an access goes that is not refused, with n bus bits. The refusals in their order: 8, 5, the route's 9, 10 or 11, and of
-    // what goes out 4 and 7.
+    // An access's route, unless it is refused. The refusals in their order: 8, 5, the route's 9, 10 or 11, and of what goes out 4
+    // and 7.
     #[tactic(auto, using(ecam::proofs::Routed::outcome_number, ecam::proofs::Routed::outcome_ok), unfolding(crate::specs::Access::config_number))]
-    pub fn config_route(&self, n: u32, a: Access, room: usize) -> Result<Route, Refusal>
-        ensures number { (cells : List ℕ) → number_in result ≡ config_number (core_from self.now cells) (route n (registers_from self.now.registers cells) a.offset) room }
-        ensures route { (cells : List ℕ) (x : code.Route) → result ≡ Ok x → route_in x ≡ route n (registers_from self.now.registers cells) a.offset }
+    pub fn check_config(&self, to: Result<Route, Refusal>, room: usize) -> Result<Route, Refusal>
+        ensures number { (cells : List ℕ) (x : routes.Route) → to ≡ outcome x → number_in result ≡ config_number (core_from self.now cells) x room }
+        ensures route { (x : code.Route) → result ≡ Ok x → to ≡ Ok x }
     {
         if room < AREA_SIZE {
             return Err(Refusal::TooShort);
@@ -124,7 +124,7 @@ impl Core {
         if self.config.state != FREE {
             return Err(Refusal::ConfigBusy);
         }
-        let x = a.route(n, self.registers)?;
+        let x = to?;
         if goes_out(x) && !self.registers.link {
             return Err(Refusal::LinkDown);
         }
@@ -132,6 +132,15 @@ impl Core {
             return Err(Refusal::FewTags);
         }
         Ok(x)
+    }
+
+    // That of an access, with n bus bits.
+    #[tactic(auto, using(ecam::proofs::Routed::outcome_ok))]
+    pub fn config_route(&self, n: u32, a: Access, room: usize) -> Result<Route, Refusal>
+        ensures number { (cells : List ℕ) → number_in result ≡ config_number (core_from self.now cells) (route n (registers_from self.now.registers cells) a.offset) room }
+        ensures route { (cells : List ℕ) (x : code.Route) → result ≡ Ok x → route_in x ≡ route n (registers_from self.now.registers cells) a.offset }
+    {
+        self.check_config(a.route(n, self.registers), room)
     }
 
     // A local access, of word w, finishes at once.

@@ -32,7 +32,8 @@ impl Core {
         }
     }
 
-    fn set_link(&mut self, up: bool)
+    // The link is up or down.
+    pub fn set_link(&mut self, up: bool)
         ensures { (cells : List ℕ) → core_from self.new cells ≡ link_in up (core_from self.old cells) }
     {
         self.registers.link = up;

@@ -107,12 +107,6 @@ stops all now input allowed used n rows later s g e =
       rows_after = g.rows_after ∙ ap (λ (x : List Told). filled (rows_of x) rows) (sym t);
     }
 
-pub stops_at_end : (all : Played) (now : List Told → Playing) (input : List ℕ) (allowed used n : ℕ) (rows later : List ℕ) → ((told : List Told) → (now told).stage.told ≡ told) → Going all now input allowed used n rows later → length input ≤ used → Plays all now used n rows later
-stops_at_end all now input allowed used n rows later s g h =
-    let e : used ≡ length input = omega (arith, h, g.there) in
-    stops all now input allowed used n rows later s g
-    (ap (λ (x : List ℕ). play (allowed - n) (now g.told) x) (ap (λ (x : ℕ). drop x input) e ∙ drop-length input))
-
 halted_play : (allowed : ℕ) (p : Playing) (s : List ℕ) → halts allowed p.reader.phase ≡ true → play allowed p s ≡ nothing p
 halted_play allowed p [] e = refl
 halted_play allowed p (b ∷ s) e = rw e

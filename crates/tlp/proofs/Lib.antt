@@ -5,3 +5,4 @@ pub mod CompletionTrip
 pub mod Codec
 pub mod Ranges
 pub mod Refused
+pub mod Short

@@ -1,26 +1,16 @@
--- What the code's error message says of the bytes that it was read from.
-use Rattle.std.specs.Prelude.{◌≡◌, ℕ, List, [], ◌∷◌, Bool, true, false, ◌&&◌, eqb, length, replicate, Option, None, Some, Result, Ok, Err}
+-- What the code's error message says of the bytes that it was made of.
+use Rattle.std.specs.Prelude.{◌≡◌, ℕ, List, [], ◌∷◌, Bool, true, false, cond, ◌&&◌, eqb, length, replicate, Result, Ok, Err}
 use Rattle.std.specs.List.{starts_with, ends_with}
 use Rattle.refusals.specs.declared.Refusal.{Refusal}
 use Rattle.refusals.specs.declared.Refusal.TheVariants.{Malformed}
 use Rattle.messages.specs.declared.layout.ErrorCode.{ErrorCode}
 use Rattle.messages.specs.declared.layout.ErrorCode.TheVariants.{Correctable, NonFatal, Fatal}
 use Rattle.messages.specs.declared.layout.ErrorMessage.{ErrorMessage}
-use Rattle.messages.specs.Layout.{message_first, message_length, err_cor, err_non_fatal, err_fatal, is_error_code, type_of, code_of, requester_of, is_error_message}
+use Rattle.messages.specs.Layout.{message_first, message_length, err_cor, err_non_fatal, code_of, requester_of, is_error_message}
 
--- the code's byte
-abbrev pub code_number : ErrorCode → ℕ
-code_number Correctable = err_cor
-code_number NonFatal = err_non_fatal
-code_number Fatal = err_fatal
-
-abbrev pub type_number : ErrorCode → ℕ
-type_number c = type_of (code_number c)
-
--- the code of a byte, where it is one
-abbrev pub is_code : ℕ → Option ErrorCode → Type 0
-is_code n None = is_error_code n ≡ false
-is_code n (Some c) = (is_error_code n ≡ true) × (code_number c ≡ n)
+-- the code that a byte is taken as; only an error's code is asked
+abbrev pub code_for : ℕ → ErrorCode
+code_for n = cond (eqb n err_cor) Correctable (cond (eqb n err_non_fatal) NonFatal Fatal)
 
 -- the bytes round the requester ID, the tag and the code
 abbrev pub is_laid : List ℕ → Bool
@@ -32,7 +22,7 @@ is_laid s =
 -- the message has the bytes' requester ID and code
 pub record IsMessage (s : List ℕ) (m : ErrorMessage) : Type 0 where
   pub requester : m.requester ≡ requester_of s
-  pub code : code_number m.code ≡ code_of s
+  pub code : m.code ≡ code_for (code_of s)
 
 -- the bytes of an error message are read, and no others
 abbrev pub reads : List ℕ → Result ErrorMessage Refusal → Type 0

@@ -1,9 +1,12 @@
-use Rattle.std.proofs.Common.{arith}
-use Rattle.std.proofs.lemmas.Grind.{common_steps}
+use mathlib.Core.Path.{ap, ◌∙◌}
+use Rattle.parts.specs.Code.Struct.{core_from}
+use Rattle.machine.specs.Refusals.{read_number}
 use Rattle.machine.specs.Memory.{read_refusal}
-use Rattle.machine.proofs.Refusals.{wrong_burst_is}
 use Rattle.moves.proofs.memory.read_slot.Goals as goal
 
-pub returns-in_err-check-clause-number : goal.returns-in_err-check-clause-number
+pub returns-clause-number : goal.returns-clause-number
 unfolding read_refusal
-returns-in_err-check-clause-number c = λ cells. let w = wrong_burst_is c.args.q _ c.in_err-check.ensures in grind (arith, common_steps, w)
+returns-clause-number c =
+    let a = c.args in
+    let b = a.b.now in
+    λ cells. c.check_read.ensures.number cells ∙ ap (λ k. read_number b.settings (core_from b.core cells) k a.q a.room) c.free_slot.ensures.slot
