@@ -1,8 +1,8 @@
 -- The numbers of a cut: which blocks of l bytes the n bytes from a on reach.
 use mathlib.Core.Path.{◌≡◌, ap, ◌∙◌}
-use Prim.Native.Nat.{ℕ, zero, suc, ◌+◌, ◌-◌, ◌*◌, ◌/◌, ◌%◌, ◌≤◌, ◌<◌, min}
+use Prim.Native.Nat.{ℕ, ◌+◌, ◌-◌, ◌*◌, ◌/◌, ◌%◌, ◌≤◌, ◌<◌, min}
 use native.Mathlib.Omega.{arith}
-use native.Mathlib.Nat.{div-add-mod', mod-lt, mul-le-mul_right, le-div_iff_mul-le, div-mul-le_self, lt-div-mul-add, mul-add-div_right, div-zero, div-lt_iff_lt-mul}
+use native.Mathlib.Nat.{div-add-mod', mod-lt, mul-le-mul_right, le-div_iff_mul-le, div-mul-le_self, lt-div-mul-add, mul-add-div_right, div-zero}
 use Rattle.burst.specs.declared.Piece.{Piece}
 use Rattle.burst.specs.Pieces.{piece_count, piece_first, piece_end, piece_at}
 

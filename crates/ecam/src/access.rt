@@ -10,7 +10,7 @@ use crate::registers::Registers;
 use refusals::Refusal;
 use tlp::request::{ConfigAddress, Request, Target};
 
-// What a configuration call is given.
+// What a configuration call is given. Kept: a flag beside strobes and word, as the call has them; a read may come with any.
 #[derive(Clone, Copy, Debug, PartialEq, Eq)]
 pub struct Access {
     pub offset: u64,

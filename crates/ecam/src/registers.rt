@@ -195,6 +195,7 @@ impl Registers {
         ensures { result ≡ local_read (registers_from self cells.now) word }
     {
         match word {
+            // Kept: no bytes, since the public fields may hold more than 8 bits.
             BUS_NUMBERS => {
                 self.primary % 256 + self.secondary % 256 * 256 + self.subordinate % 256 * 65536
             }

@@ -1,5 +1,5 @@
 -- What an accepted or refused memory call tells, and what it answers.
-use mathlib.Core.Path.{◌≡◌, refl, ap, ◌∙◌}
+use mathlib.Core.Path.{◌≡◌, refl}
 use mathlib.Core.Bool.{Bool, true, false, cond, not, ◌&&◌}
 use mathlib.Core.List.{List}
 use Prim.Native.Nat.{ℕ, suc, ◌≤◌, ◌<◌}
@@ -19,7 +19,7 @@ use Rattle.burst.specs.Bursts.{burst_right, burst_number, length_of, data_number
 use Rattle.machine.specs.Bridge.{Bridge}
 use Rattle.refusals.specs.declared.Response.TheVariants.{Nothing, Okay}
 use Rattle.machine.specs.State.{tag_count, free_slot, accepted, answered, refused}
-use Rattle.machine.specs.Memory.{filled, window_for, pieces_of, read_number, read_refusal, claimed, read_to, read_sent, read_step, read_area, write_refusal, write_bytes, write_step, write_area}
+use Rattle.machine.specs.Memory.{filled, window_for, pieces_of, read_refusal, claimed, read_to, read_sent, read_step, read_area, write_refusal, write_bytes, write_step, write_area}
 
 -- a refusal's number is not 0
 pub not_zero : (r : Refusal) → number_of r ≡ 0 → ⊥

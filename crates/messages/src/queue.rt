@@ -8,7 +8,7 @@ pub const DEPTH: usize = 32;
 const ENTRIES: u32 = DEPTH as u32;
 
 // Where the oldest entry stands, mod 32, and how many there are.
-// Kept: the cells are lent beside it, since the bridge's state is passed by value and is not to copy them.
+// Kept: the cells are lent beside it. The registers, which hold it, go by value, and their cells would be copied with them.
 #[derive(Clone, Copy, Debug, PartialEq, Eq)]
 pub struct Ring {
     pub first: u32,

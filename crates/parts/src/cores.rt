@@ -61,6 +61,7 @@ impl Core {
 }
 
 // The counter of sessions starts again at zero after its last value.
+// Kept: a twin of next_tick; each counter has its definition.
 pub fn next_session(x: u32) -> u32
     ensures { result ≡ next_session x }
 {

@@ -26,7 +26,8 @@ pub const AREA_SIZE: usize = 4608;
 pub const CONFIG_SLOT: u32 = 8;
 
 // The state of a slot.
-// Kept as numbers: they stand in public fields of a bridge, whose methods answer for every value there (`release_step`).
+// Kept as numbers, and below a slot's response, fault and cause and a tag's owner: they stand in public fields of a bridge, whose
+// methods answer for every value there (`release_step`).
 pub const FREE: u32 = 0;
 
 pub const OPEN: u32 = 1;
@@ -118,7 +119,7 @@ pub struct SlotRow {
 pub struct State {
     pub settings: Settings,
     pub core: Core,
-    // By tag: the bytes still missing, 0 where the tag is not open.
+    // By tag: the bytes still missing, 0 where the tag is not open. Kept: beside the rows, since a tick looks through them alone.
     pub missing: [u32; TAGS],
     pub tags: [TagRow; TAGS],
     pub slots: [SlotRow; SLOTS],

@@ -60,6 +60,7 @@ pub fn take_refusal(room: usize, found: u32) -> Result<(), Refusal>
 
 impl State {
     // The lowest free slot.
+    // Kept: a `for`; with `position` the contract did not prove.
     pub fn free_slot(&self) -> Option<usize>
         ensures slot { slot_or_none result ≡ free_slot_from (states_of self.now.slots) 0 slot_count }
         ensures bound { IfSome result (λ k. k < slot_count) }

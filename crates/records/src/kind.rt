@@ -19,7 +19,7 @@ pub enum Kind {
 }
 
 impl Kind {
-    // The kind that has this number.
+    // The kind that has this number. Kept: an Option, since a TryFrom's error would say no more.
     pub fn of(number: u8) -> Option<Kind>
         ensures { IsKind result number }
     {

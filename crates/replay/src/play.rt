@@ -22,7 +22,8 @@ pub fn first_of(s: &[u8], n: usize) -> &[u8]
 }
 
 // An event is played, and its row put into rows.
-// Kept, here and below: store, area, rows and buffer are lent one by one, since the contracts speak of each before and after a call.
+// Kept, here and below: store, area, rows and buffer are lent one by one, as `replay` is lent them, whose callers have no struct for
+// them: a turn would build one from what it was lent, for one call.
 fn told_in(
     b: &mut Bridge,
     store: &mut [u8],

@@ -32,7 +32,7 @@ pub fn put_row(rows: &mut [u64], at: usize, e: Event, a: Answer)
     requires { at + row_size ≤ length rows.old }
     ensures { (bytes : List ℕ) → rows.new ≡ sets rows.old at (row_of (tells (captured e bytes) (answer_of a))) }
 {
-    // Kept: copied from an array of seven, a row takes 3 ns more of the 105 that an event takes.
+    // Kept: copied from an array of seven, an event took 3 ns more (bench/replay.sh, ticks).
     rows[at] = name_of(e);
     match a {
         Ok(x) => {

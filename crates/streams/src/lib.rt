@@ -37,6 +37,7 @@ fn reason_in(text: &str) -> &str {
     }
 }
 
+// Kept: a twin of write_failed; they share `say`, and answer two types.
 fn read_failed(rt: &impl Eprint, error: io::Error) -> Unfilled
     ensures { result ≡ Unfilled.Failed }
 {

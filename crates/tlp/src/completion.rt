@@ -5,6 +5,8 @@ ghost use Rattle.tlp.specs.Completion.{valid_payload, valid_completion, completi
 use crate::{or_full, pair, put};
 use refusals::Refusal;
 
+// A completion's header. Kept: data or none stands in a flag, and the status in a number, as in the header; any values may be given,
+// and `write_completion` refuses the wrong ones with 12.
 #[derive(Clone, Copy, Debug, PartialEq, Eq)]
 pub struct Completion {
     // With data.
@@ -75,7 +77,8 @@ impl Completion {
 }
 
 // Puts the header of c into the area, of at least 16 bytes; how many bytes it has.
-// Kept: a twin of write_request; a trait over both headers is longer than the two tests that they share.
+// Kept: a twin of write_request, and read_completion of read_request; a trait over both headers is longer than the tests that they
+// share.
 #[tactic(auto, unfolding(crate::specs::Bytes::write_header, crate::specs::Bytes::area_after))]
 pub fn write_completion(c: Completion, area: &mut [u8]) -> Result<usize, Refusal>
     ensures { (result ≡ write_completion c (length area.old)) × (area.new ≡ area_after_completion c area.old) }

@@ -41,7 +41,7 @@ pub struct Request {
 }
 
 impl ConfigAddress {
-    // Kept: rows of tests are joined by `&`, so that they have no branches.
+    // Kept: joined by `&`, as a definition's row of tests is (docs/DECISIONS.md, Flags joined without branches).
     fn is_valid(self) -> bool
         ensures { result ≡ valid_config self }
     {
@@ -152,7 +152,7 @@ impl Request {
 }
 
 // Puts the header of q into the area, of at least 16 bytes; how many bytes it has.
-// Kept: a function and no method, as the three other header calls: users call it by this name.
+// Kept: a function and no method, as the three other header calls, which read and write in one form: `read_request(s)`.
 #[tactic(auto, unfolding(crate::specs::Bytes::write_header, crate::specs::Bytes::area_after))]
 pub fn write_request(q: Request, area: &mut [u8]) -> Result<usize, Refusal>
     ensures { (result ≡ write_request q (length area.old)) × (area.new ≡ area_after_request q area.old) }

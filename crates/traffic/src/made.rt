@@ -1,5 +1,5 @@
 // The bridge that a header asks for.
-use address::{Settings, Windows};
+use address::Windows;
 use bridge::{Answered, Bridge};
 use std::array;
 use traffic_file::header::{Header, WINDOW};
@@ -42,14 +42,7 @@ fn made(h: Header) -> Answered {
         size: six.map(|w| w.size),
         target: six.map(|w| w.target),
     };
-    Bridge::new(Settings {
-        windows,
-        bits: others.bits,
-        reads: others.reads,
-        writes: others.writes,
-        limit: others.limit,
-        requester: others.requester,
-    })
+    Bridge::new(others.with(windows))
 }
 
 // The bridge with its first tick value and its first session value, and the answer of making it. Where the version has no

@@ -1,4 +1,4 @@
-// The choice of a window as it was before request A3, word for word: each turn of the walk tests the count, and `shift_of`
+// The choice of a window as it was before request A3: each turn of the walk tests the count, and `shift_of`
 // takes base and target by an index.
 // Kept: it is what the present choice is timed against, so but for its result, an Option, and its casts it stays as it was.
 ghost use Rattle.std.specs.Prelude.{◌≡◌, ◌≤◌, min, not, ◌==◌, slice_index};

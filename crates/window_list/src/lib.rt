@@ -29,7 +29,7 @@ pub struct Others {
 
 impl Others {
     // The settings with these windows.
-    fn with(self, windows: Windows) -> Settings
+    pub fn with(self, windows: Windows) -> Settings
         ensures { result ≡ settings_with windows self }
     {
         Settings {

@@ -1,4 +1,3 @@
-use mathlib.Core.Path.{◌≡◌}
 use Rattle.packets.proofs.Writing.{wrote_none, wrote_more}
 use Rattle.packets.proofs.write_pieces.Goals as goal
 
