@@ -66,7 +66,12 @@ POINTS = {
     "5 functions of more than six parameters": many,
     "5 functions that are lent two parts or more of the bridge's state": lent,
     "6 columns in a flat array": find(r"^pub const (SENT|OWNER|PLACE|NEXT|KIND|STATE|SIZE|PIECES|FAULT|CAUSE|SESSION): usize.*"),
-    "6 a place in a buffer handed from call to call": find(r"(line|out): &mut \[u8; \w+\], at: usize"),
+    "5 contracts that ask for the store's length": find(r"^\s*requires .*store_size ≤ length.*"),
+    "5 contracts that ask that a number is a read slot's": find(r"^\s*requires .*(k|slot|s) < slot_count.*"),
+    "5 contracts that ask for the room of a reader's record": find(r"^\s*requires .*most_held.* ≤ length.*"),
+    "5 contracts that ask for 12 bytes of a header": find(r"^\s*requires .*12 ≤ length s.*"),
+    "5 contracts that ask for the room of a row": find(r"^\s*requires .*row_size ≤ length.*"),
+    "6 a place in a buffer handed from call to call": find(r"(line|out): &mut \[u8; \w+\], at: usize|area: &mut \[u8\],\s+at: usize,?\s*\) -> usize"),
 }
 
 
