@@ -59,5 +59,5 @@ pub fn long_at(s: &[u8], i: usize) -> u64
     if s.len() <= i {
         return 0;
     }
-    u64::from(word_at(s, i)) * 4294967296 + u64::from(word_at(s, i + 4))
+    (u64::from(word_at(s, i)) << 32) + u64::from(word_at(s, i + 4))
 }

@@ -4,7 +4,7 @@
 
 mod former;
 
-ghost use Rattle.std.specs.Prelude.{◌≡◌, not, ◌==◌, slice_index};
+ghost use Rattle.std.specs.Prelude.{◌≡◌, ℕ, not, ◌==◌, slice_index};
 ghost use Rattle.address.specs.Windows.{axi, window_of, Placed, found_number};
 ghost use Rattle.address.specs.Code.Entries.{entry_number};
 ghost use Rattle.packets.specs.Packets.{index_of};
@@ -57,6 +57,19 @@ impl Choice for Before {
     }
 }
 
+// The sum of what each address gives.
+#[tactic(auto, using(crate::proofs::Sums::sum_none, crate::proofs::Sums::sum_on))]
+fn sum<F: Fn(u64) -> u64>(addresses: &[u64], of: F) -> u64
+    requires { (a : ℕ) → F.pre of a }
+    ensures { (f : ℕ → ℕ) → ((a r : ℕ) → F.post of a r → r ≡ f a) → result ≡ sum_of f addresses.now }
+{
+    let mut sum = 0u64;
+    for a in addresses {
+        sum = sum.wrapping_add(of(*a));
+    }
+    sum
+}
+
 // ---- the choice on lent columns: one, and the sum of many
 
 fn chosen<C: Choice>(count: u32, base: &[u64; 6], size: &[u64; 6], a: u64) -> u64
@@ -65,15 +78,10 @@ fn chosen<C: Choice>(count: u32, base: &[u64; 6], size: &[u64; 6], a: u64) -> u6
     C::window_of(count, base, size, AxiAddress(a)).map_or(6, u64::from)
 }
 
-#[tactic(auto, using(crate::proofs::Sums::sum_none, crate::proofs::Sums::sum_on))]
 fn choices<C: Choice>(count: u32, base: &[u64; 6], size: &[u64; 6], addresses: &[u64]) -> u64
     ensures { result ≡ sum_of (entry_at count base.now size.now) addresses.now }
 {
-    let mut sum = 0u64;
-    for a in addresses {
-        sum = sum.wrapping_add(chosen::<C>(count, base, size, *a));
-    }
-    sum
+    sum(addresses, |a| chosen::<C>(count, base, size, a))
 }
 
 // ---- as an access makes it, with the table by value: whether a window holds the address, then that window's base and target
@@ -87,15 +95,10 @@ fn reached<C: Choice>(w: Windows, a: u64) -> u64
     C::shift_of(w, AxiAddress(a)).translate(AxiAddress(a)).0
 }
 
-#[tactic(auto, using(crate::proofs::Sums::sum_none, crate::proofs::Sums::sum_on))]
 fn accesses<C: Choice>(w: Windows, addresses: &[u64]) -> u64
     ensures { result ≡ sum_of (reached_at w) addresses.now }
 {
-    let mut sum = 0u64;
-    for a in addresses {
-        sum = sum.wrapping_add(reached::<C>(w, *a));
-    }
-    sum
+    sum(addresses, |a| reached::<C>(w, a))
 }
 
 fn table_of(count: u32, base: &[u64; 6], size: &[u64; 6], target: &[u64; 6]) -> Windows

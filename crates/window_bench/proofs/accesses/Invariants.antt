@@ -1,7 +1,0 @@
-use Rattle.std.proofs.Common.{◌≡◌}
-use Rattle.window_bench.specs.Sums.{sum_to, reached_at}
-use Rattle.window_bench.proofs.accesses.Given as goal
-
--- The invariant: the sum over the addresses passed.
-abbrev pub invariant-loop-a : goal.invariant-loop-a
-invariant-loop-a g l = l.sum ≡ sum_to (reached_at l.w) l.addresses l.a-index
