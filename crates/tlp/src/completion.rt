@@ -2,7 +2,7 @@
 ghost use Rattle.std.specs.Prelude.{◌≡◌, true, ◌≤◌, length};
 ghost use Rattle.tlp.specs.Completion.{valid_payload, valid_completion, completion_bytes, write_completion, area_after_completion, completion_in, completion_reserved, read_completion};
 
-use crate::{or_full, pair, put};
+use crate::{HeaderBytes, or_full, pair, put};
 use refusals::Refusal;
 
 // A completion's header. Kept: data or none stands in a flag, and the status in a number, as in the header; any values may be given,
@@ -104,22 +104,24 @@ fn completion_reserved(s: &[u8]) -> bool
             & (s[6] % 32 < 16)
 }
 
-fn completion_in(s: &[u8]) -> Completion
-    requires { 12 ≤ length s.now }
-    ensures { result ≡ completion_in s.now }
-{
-    let payload = s[0] == 0x4A;
-    let field = pair(s[2] % 4, s[3]);
-    Completion {
-        payload,
-        poisoned: 0x40 <= s[2],
-        length: if payload { or_full(1024, field) } else { field },
-        completer: pair(s[4], s[5]),
-        status: u32::from(s[6] / 32),
-        count: or_full(4096, pair(s[6] % 16, s[7])),
-        requester: pair(s[8], s[9]),
-        tag: u32::from(s[10]),
-        lower: u32::from(s[11]),
+impl HeaderBytes<'_> {
+    fn completion(self) -> Completion
+        ensures { result ≡ completion_in self.entry.bytes.now }
+    {
+        let s = self.bytes;
+        let payload = s[0] == 0x4A;
+        let field = pair(s[2] % 4, s[3]);
+        Completion {
+            payload,
+            poisoned: 0x40 <= s[2],
+            length: if payload { or_full(1024, field) } else { field },
+            completer: pair(s[4], s[5]),
+            status: u32::from(s[6] / 32),
+            count: or_full(4096, pair(s[6] % 16, s[7])),
+            requester: pair(s[8], s[9]),
+            tag: u32::from(s[10]),
+            lower: u32::from(s[11]),
+        }
     }
 }
 
@@ -128,10 +130,11 @@ fn completion_in(s: &[u8]) -> Completion
 pub fn read_completion(s: &[u8]) -> Result<Completion, Refusal>
     ensures { result ≡ read_completion s.now }
 {
+    let h = HeaderBytes::of(s).ok_or(Refusal::Malformed)?;
     if !completion_reserved(s) {
         return Err(Refusal::Malformed);
     }
-    let c = completion_in(s);
+    let c = h.completion();
     if c.is_valid() {
         Ok(c)
     } else {

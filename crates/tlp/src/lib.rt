@@ -5,7 +5,7 @@ pub mod completion;
 pub mod packet;
 pub mod request;
 
-ghost use Rattle.std.specs.Prelude.{◌≡◌, ◌+◌, ◌*◌, ◌++◌, ◌≤◌, length, drop};
+ghost use Rattle.std.specs.Prelude.{◌≡◌, ◌+◌, ◌*◌, ◌++◌, ◌≤◌, ◌<◌, length, drop, IfSome, IfNone};
 ghost use Rattle.tlp.specs.Bytes.{or_full};
 
 // A field in which the full value is written as 0.
@@ -13,6 +13,25 @@ fn or_full(full: u32, field: u32) -> u32
     ensures { result ≡ or_full full field }
 {
     if field == 0 { full } else { field }
+}
+
+// The bytes that may be a header: there are at least 12.
+#[derive(Clone, Copy)]
+struct HeaderBytes<'a> {
+    bytes: &'a [u8],
+    ghost long: { 12 ≤ length bytes.now },
+}
+
+impl<'a> HeaderBytes<'a> {
+    fn of(s: &'a [u8]) -> Option<HeaderBytes<'a>>
+        ensures some { IfSome result (λ h. h.bytes ≡ s.entry) }
+        ensures none { IfNone result (length s.now < 12) }
+    {
+        if s.len() < 12 {
+            return None;
+        }
+        Some(HeaderBytes { bytes: s })
+    }
 }
 
 // The number in two bytes.

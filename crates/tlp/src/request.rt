@@ -3,7 +3,7 @@ ghost use Rattle.std.specs.Prelude.{◌≡◌, true, cond, ◌&&◌, ◌++◌, �
 ghost use Rattle.tlp.specs.Bytes.{byte};
 ghost use Rattle.tlp.specs.Request.{valid_enables, valid_config, valid_target, valid_request, format_type, config_bytes, target_bytes, request_bytes, write_request, area_after_request, format_of, config_in, target_in, request_in, read_request};
 
-use crate::{or_full, pair, put};
+use crate::{HeaderBytes, or_full, pair, put};
 use refusals::Refusal;
 
 // Where a configuration request goes.
@@ -167,58 +167,60 @@ pub fn write_request(q: Request, area: &mut [u8]) -> Result<usize, Refusal>
     Ok(n + q.put_target(&mut area[n..]))
 }
 
-fn config_in(s: &[u8]) -> Option<ConfigAddress>
-    requires { 12 ≤ length s.now }
-    ensures { result ≡ cond (eqb (length s.now) 12 && eqb (byte s.now 11 % 4) 0) (Some (config_in s.now)) None }
-{
-    if s.len() == 12 && s[11] % 4 == 0 {
-        return Some(ConfigAddress {
-            bus: u32::from(s[8]),
-            device: u32::from(s[9] / 8),
-            function: u32::from(s[9] % 8),
-            extended: u32::from(s[10]),
-            register: u32::from(s[11] / 4),
-        });
-    }
-    None
-}
-
-#[tactic(auto, unfolding(crate::specs::Request::format_of, crate::specs::Request::target_in))]
-fn target_in(s: &[u8]) -> Option<Target>
-    requires { 12 ≤ length s.now }
-    ensures { result ≡ target_in (format_of (byte s.now 0 % 0x40)) s.now }
-{
-    let n = s.len();
-    match s[0] % 0x40 {
-        0x00 if n == 12 => {
-            Some(Target::Memory(u64::from(u32::from_be_bytes([s[8], s[9], s[10], s[11]]))))
+impl HeaderBytes<'_> {
+    fn config(self) -> Option<ConfigAddress>
+        ensures { result ≡ cond (eqb (length self.entry.bytes.now) 12 && eqb (byte self.entry.bytes.now 11 % 4) 0) (Some (config_in self.entry.bytes.now)) None }
+    {
+        let s = self.bytes;
+        if s.len() == 12 && s[11] % 4 == 0 {
+            return Some(ConfigAddress {
+                bus: u32::from(s[8]),
+                device: u32::from(s[9] / 8),
+                function: u32::from(s[9] % 8),
+                extended: u32::from(s[10]),
+                register: u32::from(s[11] / 4),
+            });
         }
-        0x20 if n == 16 => {
-            let a = u64::from_be_bytes([s[8], s[9], s[10], s[11], s[12], s[13], s[14], s[15]]);
-            if a < 4294967296 {
-                None
-            } else {
-                Some(Target::Memory(a))
+        None
+    }
+
+    #[tactic(auto, unfolding(crate::specs::Request::format_of, crate::specs::Request::target_in))]
+    fn target(self) -> Option<Target>
+        ensures { result ≡ target_in (format_of (byte self.entry.bytes.now 0 % 0x40)) self.entry.bytes.now }
+    {
+        let s = self.bytes;
+        let n = s.len();
+        match s[0] % 0x40 {
+            0x00 if n == 12 => {
+                Some(Target::Memory(u64::from(u32::from_be_bytes([s[8], s[9], s[10], s[11]]))))
             }
+            0x20 if n == 16 => {
+                let a = u64::from_be_bytes([s[8], s[9], s[10], s[11], s[12], s[13], s[14], s[15]]);
+                if a < 4294967296 {
+                    None
+                } else {
+                    Some(Target::Memory(a))
+                }
+            }
+            0x04 => Some(Target::Config0(self.config()?)),
+            0x05 => Some(Target::Config1(self.config()?)),
+            _ => None,
         }
-        0x04 => Some(Target::Config0(config_in(s)?)),
-        0x05 => Some(Target::Config1(config_in(s)?)),
-        _ => None,
     }
-}
 
-fn request_in(s: &[u8], target: Target) -> Request
-    requires { 12 ≤ length s.now }
-    ensures { result ≡ request_in s.now target }
-{
-    Request {
-        write: 0x40 <= s[0],
-        target,
-        length: or_full(1024, pair(s[2], s[3])),
-        requester: pair(s[4], s[5]),
-        tag: u32::from(s[6]),
-        last: u32::from(s[7] / 16),
-        first: u32::from(s[7] % 16),
+    fn request(self, target: Target) -> Request
+        ensures { result ≡ request_in self.entry.bytes.now target }
+    {
+        let s = self.bytes;
+        Request {
+            write: 0x40 <= s[0],
+            target,
+            length: or_full(1024, pair(s[2], s[3])),
+            requester: pair(s[4], s[5]),
+            tag: u32::from(s[6]),
+            last: u32::from(s[7] / 16),
+            first: u32::from(s[7] % 16),
+        }
     }
 }
 
@@ -227,10 +229,11 @@ fn request_in(s: &[u8], target: Target) -> Request
 pub fn read_request(s: &[u8]) -> Result<Request, Refusal>
     ensures { result ≡ read_request s.now }
 {
-    if s.len() < 12 || !((s[0] < 0x80) & (s[1] == 0) & (s[2] < 4)) {
+    let h = HeaderBytes::of(s).ok_or(Refusal::Malformed)?;
+    if !((s[0] < 0x80) & (s[1] == 0) & (s[2] < 4)) {
         return Err(Refusal::Malformed);
     }
-    let q = request_in(s, target_in(s).ok_or(Refusal::Malformed)?);
+    let q = h.request(h.target().ok_or(Refusal::Malformed)?);
     if q.is_valid() {
         Ok(q)
     } else {
