@@ -59,11 +59,9 @@ fn header_in(b: &mut State, store: &mut [u8], h: Completion, payload: &[u8]) -> 
     if v.is_unexpected() {
         return b.core.refuse(Refusal::NotExpected);
     }
-    let k = b.tags[h.tag as usize].owner as usize;
-    if k < SLOTS {
-        memory_in(b, store, payload, h, k, v);
-    } else {
-        finish_config(b, h.tag, payload, v);
+    match b.tags[h.tag as usize].read_slot() {
+        Some(k) => memory_in(b, store, payload, h, k, v),
+        None => finish_config(b, h.tag, payload, v),
     }
     Ok(Accepted::plain())
 }

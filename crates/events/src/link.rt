@@ -7,6 +7,7 @@ ghost use Rattle.machine.specs.Ticks.{store_refusal, drop_slots, linked};
 ghost use Rattle.machine.specs.Code.Tables.{held_of};
 
 use moves::slots::drop_slot;
+use parts::read_slot::ReadSlot;
 use parts::{Accepted, Answer, SLOTS, STORE_SIZE, State, TAGS};
 use refusals::Refusal;
 
@@ -15,7 +16,7 @@ fn drop_slots(b: &mut State, store: &mut [u8])
     ensures { (cells : List ℕ) → held_of cells b.new store.new ≡ drop_slots (held_of cells b.old store.old) slot_count }
 {
     for k in 0..SLOTS {
-        drop_slot(b, store, k);
+        drop_slot(b, store, ReadSlot { number: k });
     }
 }
 

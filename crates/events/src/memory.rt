@@ -1,7 +1,7 @@
 // Memory reads and writes.
-ghost use Rattle.std.specs.Prelude.{◌≡◌, List, ℕ, ◌<◌, ◌≤◌, length};
+ghost use Rattle.std.specs.Prelude.{◌≡◌, List, ℕ, ◌≤◌, length};
 ghost use Rattle.tags.specs.Tags.{available};
-ghost use Rattle.parts.specs.Sizes.{tag_count, slot_count, area_size};
+ghost use Rattle.parts.specs.Sizes.{tag_count, area_size};
 ghost use Rattle.parts.specs.Code.Struct.{answer_of};
 ghost use Rattle.machine.specs.State.{answered};
 ghost use Rattle.machine.specs.Memory.{filled, pieces_of, read_to, read_sent, read_step, read_area, write_step, write_area};
@@ -11,18 +11,19 @@ use burst::Burst;
 use moves::memory::{check_write, read_slot};
 use moves::opening::{Opening, claim};
 use packets::{shift_of, write_pieces};
+use parts::read_slot::ReadSlot;
 use parts::{Accepted, Answer, State};
 use refusals::Response;
 
 // Every piece of a burst is opened, in address order, and its header sent; how many bytes these are.
-fn read_pieces(b: &mut State, slot: usize, q: Burst, area: &mut [u8]) -> usize
-    requires { (slot < slot_count) × ((pieces_of b.old.settings.reads q ≤ available tag_count b.old.core.free) × (area_size ≤ length area.old)) }
-    ensures tables { (cells : List ℕ) → bridge_of cells b.new ≡ read_to slot q (bridge_of cells b.old) (pieces_of b.old.settings.reads q) }
-    ensures sent { (cells : List ℕ) → result ≡ length (read_sent slot q (bridge_of cells b.old) (pieces_of b.old.settings.reads q)) }
-    ensures area { (cells : List ℕ) → area.new ≡ filled (read_sent slot q (bridge_of cells b.old) (pieces_of b.old.settings.reads q)) area.old }
+fn read_pieces(b: &mut State, slot: ReadSlot, q: Burst, area: &mut [u8]) -> usize
+    requires { (pieces_of b.old.settings.reads q ≤ available tag_count b.old.core.free) × (area_size ≤ length area.old) }
+    ensures tables { (cells : List ℕ) → bridge_of cells b.new ≡ read_to slot.number q (bridge_of cells b.old) (pieces_of b.old.settings.reads q) }
+    ensures sent { (cells : List ℕ) → result ≡ length (read_sent slot.number q (bridge_of cells b.old) (pieces_of b.old.settings.reads q)) }
+    ensures area { (cells : List ℕ) → area.new ≡ filled (read_sent slot.number q (bridge_of cells b.old) (pieces_of b.old.settings.reads q)) area.old }
 {
     let read = Opening {
-        slot: slot as u32,
+        slot: slot.number as u32,
         shift: shift_of(b.settings.windows, q.start),
         burst: q,
         bytes: q.length(),
@@ -44,7 +45,7 @@ pub fn read_in(b: &mut State, q: Burst, area: &mut [u8]) -> Answer
         Ok(slot) => {
             claim(b, slot, q);
             let sent = read_pieces(b, slot, q, area);
-            Ok(Accepted::sent(Response::Nothing, slot as u32, sent))
+            Ok(Accepted::sent(Response::Nothing, slot.number as u32, sent))
         }
     }
 }

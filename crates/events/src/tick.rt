@@ -9,7 +9,7 @@ ghost use Rattle.machine.specs.Code.Tables.{held_of};
 use moves::slots::{close_piece, fail};
 use moves::tagged::shut;
 use parts::numbers::{is_old, next_tick, tick_after};
-use parts::{Accepted, Answer, SLOTS, STORE_SIZE, State, TAGS};
+use parts::{Accepted, Answer, STORE_SIZE, State, TAGS};
 use refusals::Refusal;
 use verdict::Cause;
 
@@ -20,14 +20,16 @@ fn time_out(b: &mut State, store: &mut [u8], t: usize)
     ensures { (cells : List ℕ) → held_of cells b.new store.new ≡ timed_out t (held_of cells b.old store.old) }
 {
     let row = b.tags[t];
-    let k = row.owner as usize;
-    if k < SLOTS {
-        fail(b, k, row.place, Cause::Timeout);
-        shut(b, t);
-        close_piece(b, store, k);
-    } else {
-        b.core.time_out_config();
-        shut(b, t);
+    match row.read_slot() {
+        Some(k) => {
+            fail(b, k, row.place, Cause::Timeout);
+            shut(b, t);
+            close_piece(b, store, k);
+        }
+        None => {
+            b.core.time_out_config();
+            shut(b, t);
+        }
     }
 }
 

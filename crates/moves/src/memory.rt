@@ -1,6 +1,7 @@
 // What refuses a memory burst.
 ghost use Rattle.std.specs.Prelude.{◌≡◌, List, ℕ, Ok, Some};
 ghost use Rattle.refusals.specs.Refusals.{number_in};
+ghost use Rattle.parts.specs.declared.read_slot.ReadSlot.{ReadSlot};
 ghost use Rattle.parts.specs.Code.Struct.{core_from, slot_or_none};
 ghost use Rattle.machine.specs.Refusals.{read_number};
 ghost use Rattle.machine.specs.State.{free_slot};
@@ -9,6 +10,7 @@ ghost use Rattle.machine.specs.Code.Tables.{bridge_of};
 
 use burst::Burst;
 use packets::no_window;
+use parts::read_slot::ReadSlot;
 use parts::{AREA_SIZE, OPEN, SLOTS, State};
 use refusals::Refusal;
 
@@ -44,11 +46,12 @@ pub fn check_read(b: &State, slot: Option<usize>, q: Burst, room: usize) -> Resu
 
 // The slot of a read: the lowest that is free.
 #[tactic(auto, unfolding(machine::specs::Memory::read_refusal))]
-pub fn read_slot(b: &State, q: Burst, room: usize) -> Result<usize, Refusal>
+pub fn read_slot(b: &State, q: Burst, room: usize) -> Result<ReadSlot, Refusal>
     ensures number { (cells : List ℕ) → number_in result ≡ read_refusal (bridge_of cells b.now) q room }
-    ensures slot { (cells : List ℕ) (k : ℕ) → result ≡ Ok k → k ≡ free_slot (bridge_of cells b.now) }
+    ensures slot { (cells : List ℕ) (k : ReadSlot) → result ≡ Ok k → k.number ≡ free_slot (bridge_of cells b.now) }
 {
-    check_read(b, b.free_slot(), q, room)
+    let k = check_read(b, b.free_slot(), q, room)?;
+    Ok(ReadSlot { number: k })
 }
 
 // Whether a write of len bytes may be sent.

@@ -6,7 +6,7 @@ ghost use Rattle.address.specs.Windows.{axi, translated};
 ghost use Rattle.burst.specs.Bursts.{length_of};
 ghost use Rattle.burst.specs.Pieces.{piece_count};
 ghost use Rattle.packets.specs.Packets.{piece_of, place_in, memory_request, packet};
-ghost use Rattle.parts.specs.Sizes.{tag_count, slot_count};
+ghost use Rattle.parts.specs.Sizes.{tag_count};
 ghost use Rattle.parts.specs.Pendings.{memory_pending};
 ghost use Rattle.machine.specs.State.{opened};
 ghost use Rattle.machine.specs.Memory.{claimed};
@@ -16,6 +16,7 @@ use crate::tagged::open;
 use address::AxiAddress;
 use burst::Burst;
 use packets::{Shift, head_of, memory_request};
+use parts::read_slot::ReadSlot;
 use parts::{OPEN, Pending, SLOT_SIZE, SlotRow, State};
 
 // A memory read that is being opened: its slot, the shift of its window, its burst, and how many bytes that covers.
@@ -50,12 +51,11 @@ impl Opening {
 
 // A slot waits for a burst, which is accepted in this session.
 #[tactic(auto, unfolding(machine::specs::Memory::claimed))]
-pub fn claim(b: &mut State, slot: usize, q: Burst)
-    requires { slot < slot_count }
-    ensures { (cells : List ℕ) → bridge_of cells b.new ≡ claimed slot q (bridge_of cells b.old) }
+pub fn claim(b: &mut State, slot: ReadSlot, q: Burst)
+    ensures { (cells : List ℕ) → bridge_of cells b.new ≡ claimed slot.number q (bridge_of cells b.old) }
 {
     let n = q.length();
-    b.slots[slot] = SlotRow {
+    b.slots[slot.number] = SlotRow {
         state: OPEN,
         size: n,
         pieces: burst::piece_count(b.settings.reads, q.start.0, n),

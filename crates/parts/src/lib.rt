@@ -5,6 +5,7 @@ pub mod access;
 pub mod answers;
 pub mod cores;
 pub mod numbers;
+pub mod read_slot;
 pub mod requests;
 
 use address::Settings;

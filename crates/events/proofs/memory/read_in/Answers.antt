@@ -1,4 +1,4 @@
-use Rattle.std.proofs.Common.{◌≡◌, ℕ, [], refl, sym, ap, ◌∙◌, length, arith}
+use Rattle.std.proofs.Common.{◌≡◌, ℕ, [], refl, sym, ap, ◌∙◌, length}
 use Rattle.address.specs.declared.Settings.{Settings}
 use Rattle.burst.specs.declared.Burst.{Burst}
 use Rattle.machine.specs.Bridge.{Bridge}
@@ -23,14 +23,6 @@ returns-in-Err-clause-area c = λ cells.
     let why = c.in-Err.why in
     (read_refused_lem (bridge_of cells a.b.now) a.q a.area.now (number_of why) (c.in-Err.ensures.number cells) (not_zero why)).1
 
-pub claim-requires : goal.claim-requires
-claim-requires c =
-    let a = c.args in
-    let b = bridge_of [] a.b.now in
-    let ok = read_ok b a.q (length a.area.now) (sym (c.in-Ok.ensures.number [])) in
-    let es : c.in-Ok.slot ≡ free_slot b = c.in-Ok.ensures.slot [] c.in-Ok.slot refl in
-    omega (arith, es, ok.slot)
-
 -- what a claimed slot leaves
 settings_stay : (k : ℕ) (q : Burst) (b : Bridge) → (claimed k q b).settings ≡ b.settings
 unfolding claimed
@@ -45,42 +37,33 @@ read_pieces-sent-requires c =
     let a = c.args in
     let b = bridge_of [] a.b.now in
     let ok = read_ok b a.q (length a.area.now) (sym (c.in-Ok.ensures.number [])) in
-    let es : c.in-Ok.slot ≡ free_slot b = c.in-Ok.ensures.slot [] c.in-Ok.slot refl in
-    let s : c.claim.new.b.settings ≡ a.b.now.settings = ap (λ (x : Bridge). x.settings) (c.claim.ensures []) ∙ settings_stay c.in-Ok.slot a.q b in
-    let f : c.claim.new.b.core.free ≡ a.b.now.core.free = ap (λ (x : Bridge). x.core.free) (c.claim.ensures []) ∙ free_stays c.in-Ok.slot a.q b in
-    rw (s, f) (omega (arith, es, ok.slot), (ok.tags, ok.area))
-
-pub overflow_cast-slot : goal.overflow_cast-slot
-overflow_cast-slot c =
-    let a = c.args in
-    let b = bridge_of [] a.b.now in
-    let ok = read_ok b a.q (length a.area.now) (sym (c.in-Ok.ensures.number [])) in
-    let es : c.in-Ok.slot ≡ free_slot b = c.in-Ok.ensures.slot [] c.in-Ok.slot refl in
-    omega (arith, es, ok.slot)
+    let s : c.claim.new.b.settings ≡ a.b.now.settings = ap (λ (x : Bridge). x.settings) (c.claim.ensures []) ∙ settings_stay c.in-Ok.slot.number a.q b in
+    let f : c.claim.new.b.core.free ≡ a.b.now.core.free = ap (λ (x : Bridge). x.core.free) (c.claim.ensures []) ∙ free_stays c.in-Ok.slot.number a.q b in
+    rw (s, f) (ok.tags, ok.area)
 
 pub returns-in-Ok-clause-step : goal.returns-in-Ok-clause-step
 returns-in-Ok-clause-step c = λ cells.
     let a = c.args in
     let b = bridge_of cells a.b.now in
     let t = c.read_pieces-sent in
-    let es : c.in-Ok.slot ≡ free_slot b = c.in-Ok.ensures.slot cells c.in-Ok.slot refl in
-    let s : c.claim.new.b.settings ≡ a.b.now.settings = ap (λ (x : Bridge). x.settings) (c.claim.ensures cells) ∙ settings_stay c.in-Ok.slot a.q b in
+    let es : c.in-Ok.slot.number ≡ free_slot b = c.in-Ok.ensures.slot cells c.in-Ok.slot refl in
+    let s : c.claim.new.b.settings ≡ a.b.now.settings = ap (λ (x : Bridge). x.settings) (c.claim.ensures cells) ∙ settings_stay c.in-Ok.slot.number a.q b in
     rw c.sent.ensures
-    (read_done b (bridge_of cells c.claim.new.b) (bridge_of cells t.new.b) a.q c.in-Ok.slot t.result a.area.now t.new.area es (sym (c.in-Ok.ensures.number cells))
+    (read_done b (bridge_of cells c.claim.new.b) (bridge_of cells t.new.b) a.q c.in-Ok.slot.number t.result a.area.now t.new.area es (sym (c.in-Ok.ensures.number cells))
     (c.claim.ensures cells)
-    (t.ensures.tables cells ∙ ap (λ (x : Settings). read_to c.in-Ok.slot a.q (bridge_of cells c.claim.new.b) (pieces_of x.reads a.q)) s)
-    (t.ensures.sent cells ∙ ap (λ (x : Settings). length (read_sent c.in-Ok.slot a.q (bridge_of cells c.claim.new.b) (pieces_of x.reads a.q))) s)
-    (t.ensures.area cells ∙ ap (λ (x : Settings). filled (read_sent c.in-Ok.slot a.q (bridge_of cells c.claim.new.b) (pieces_of x.reads a.q)) a.area.now) s)).0
+    (t.ensures.tables cells ∙ ap (λ (x : Settings). read_to c.in-Ok.slot.number a.q (bridge_of cells c.claim.new.b) (pieces_of x.reads a.q)) s)
+    (t.ensures.sent cells ∙ ap (λ (x : Settings). length (read_sent c.in-Ok.slot.number a.q (bridge_of cells c.claim.new.b) (pieces_of x.reads a.q))) s)
+    (t.ensures.area cells ∙ ap (λ (x : Settings). filled (read_sent c.in-Ok.slot.number a.q (bridge_of cells c.claim.new.b) (pieces_of x.reads a.q)) a.area.now) s)).0
 
 pub returns-in-Ok-clause-area : goal.returns-in-Ok-clause-area
 returns-in-Ok-clause-area c = λ cells.
     let a = c.args in
     let b = bridge_of cells a.b.now in
     let t = c.read_pieces-sent in
-    let es : c.in-Ok.slot ≡ free_slot b = c.in-Ok.ensures.slot cells c.in-Ok.slot refl in
-    let s : c.claim.new.b.settings ≡ a.b.now.settings = ap (λ (x : Bridge). x.settings) (c.claim.ensures cells) ∙ settings_stay c.in-Ok.slot a.q b in
-    (read_done b (bridge_of cells c.claim.new.b) (bridge_of cells t.new.b) a.q c.in-Ok.slot t.result a.area.now t.new.area es (sym (c.in-Ok.ensures.number cells))
+    let es : c.in-Ok.slot.number ≡ free_slot b = c.in-Ok.ensures.slot cells c.in-Ok.slot refl in
+    let s : c.claim.new.b.settings ≡ a.b.now.settings = ap (λ (x : Bridge). x.settings) (c.claim.ensures cells) ∙ settings_stay c.in-Ok.slot.number a.q b in
+    (read_done b (bridge_of cells c.claim.new.b) (bridge_of cells t.new.b) a.q c.in-Ok.slot.number t.result a.area.now t.new.area es (sym (c.in-Ok.ensures.number cells))
     (c.claim.ensures cells)
-    (t.ensures.tables cells ∙ ap (λ (x : Settings). read_to c.in-Ok.slot a.q (bridge_of cells c.claim.new.b) (pieces_of x.reads a.q)) s)
-    (t.ensures.sent cells ∙ ap (λ (x : Settings). length (read_sent c.in-Ok.slot a.q (bridge_of cells c.claim.new.b) (pieces_of x.reads a.q))) s)
-    (t.ensures.area cells ∙ ap (λ (x : Settings). filled (read_sent c.in-Ok.slot a.q (bridge_of cells c.claim.new.b) (pieces_of x.reads a.q)) a.area.now) s)).1
+    (t.ensures.tables cells ∙ ap (λ (x : Settings). read_to c.in-Ok.slot.number a.q (bridge_of cells c.claim.new.b) (pieces_of x.reads a.q)) s)
+    (t.ensures.sent cells ∙ ap (λ (x : Settings). length (read_sent c.in-Ok.slot.number a.q (bridge_of cells c.claim.new.b) (pieces_of x.reads a.q))) s)
+    (t.ensures.area cells ∙ ap (λ (x : Settings). filled (read_sent c.in-Ok.slot.number a.q (bridge_of cells c.claim.new.b) (pieces_of x.reads a.q)) a.area.now) s)).1

@@ -18,7 +18,7 @@ use Rattle.events.proofs.memory.read_pieces.Goals as goal
 pub loop-k-init : goal.loop-k-init
 loop-k-init c =
     let a = c.args in
-    (refl, (omega arith, (zero-le, (refl, λ cells. turned_none a.slot a.q (bridge_of cells a.b.now) a.area.now))))
+    (refl, (omega arith, (zero-le, (refl, λ cells. turned_none a.slot.number a.q (bridge_of cells a.b.now) a.area.now))))
 
 pub turn-at-requires : goal.turn-at-requires
 turn-at-requires c =
@@ -27,8 +27,8 @@ turn-at-requires c =
     let cnt : c.piece_count-k-end.result ≡ pieces_of s.reads a.q = c.piece_count-k-end.ensures ∙ ap (λ x. piece_count s.reads a.q.start.0 x) c.length.ensures.0 in
     let i = c.loop-k.invariant in
     let w = available_within tag_count a.b.now.core.free in
-    let h : 0 < available tag_count c.loop-k.b.core.free = omega (arith, cnt, i.1.0, c.loop-k-test.true, c.requires.1.0) in
-    let r : c.loop-k.at + 16 ≤ length c.loop-k.area = omega (arith, cnt, w, i.1.1.0, i.1.1.1.0, c.loop-k-test.true, c.requires.1) in
+    let h : 0 < available tag_count c.loop-k.b.core.free = omega (arith, cnt, i.1.0, c.loop-k-test.true, c.requires.0) in
+    let r : c.loop-k.at + 16 ≤ length c.loop-k.area = omega (arith, cnt, w, i.1.1.0, i.1.1.1.0, c.loop-k-test.true, c.requires) in
     (lowest_below c.loop-k.b.core.free h, (c.length.ensures.0, (c.length.ensures.1.1, (rw (i.0, ← c.piece_count-k-end.ensures) c.loop-k-test.true, r))))
 
 pub loop-k-preserved : goal.loop-k-preserved
@@ -38,8 +38,8 @@ loop-k-preserved c =
     let cnt : c.piece_count-k-end.result ≡ pieces_of s.reads a.q = c.piece_count-k-end.ensures ∙ ap (λ x. piece_count s.reads a.q.start.0 x) c.length.ensures.0 in
     let i = c.loop-k.invariant in
     let w = available_within tag_count a.b.now.core.free in
-    let h : 0 < available tag_count c.loop-k.b.core.free = omega (arith, cnt, i.1.0, c.loop-k-test.true, c.requires.1.0) in
-    let r : c.loop-k.at + 16 ≤ length c.loop-k.area = omega (arith, cnt, w, i.1.1.0, i.1.1.1.0, c.loop-k-test.true, c.requires.1) in
+    let h : 0 < available tag_count c.loop-k.b.core.free = omega (arith, cnt, i.1.0, c.loop-k-test.true, c.requires.0) in
+    let r : c.loop-k.at + 16 ≤ length c.loop-k.area = omega (arith, cnt, w, i.1.1.0, i.1.1.1.0, c.loop-k-test.true, c.requires) in
     let t = c.turn-at in
     let k = c.loop-k.k in
     let p = piece_of s.reads a.q k in
@@ -48,7 +48,7 @@ loop-k-preserved c =
     let z = packet_short m in
     let o = one_less c.loop-k.b.core.free h in
     let sends = λ (x : Settings). packet (memory_request false x.requester (lowest tag_count c.loop-k.b.core.free) (translated shift.base shift.target (axi (piece_of x.reads a.q k).first)).0 (piece_of x.reads a.q k).length) [] in
-    let pends = λ (x : Settings). memory_pending a.slot (place_in a.q (piece_of x.reads a.q k)) (piece_of x.reads a.q k).length (translated shift.base shift.target (axi (piece_of x.reads a.q k).first)).0 in
+    let pends = λ (x : Settings). memory_pending a.slot.number (place_in a.q (piece_of x.reads a.q k)) (piece_of x.reads a.q k).length (translated shift.base shift.target (axi (piece_of x.reads a.q k).first)).0 in
     let tables : (cells : List ℕ) → bridge_of cells t.new.b ≡ opened (pends s) (bridge_of cells c.loop-k.b) = λ cells. t.ensures.tables cells ∙ ap (λ (x : Settings). opened (pends x) (bridge_of cells c.loop-k.b)) i.0 in
     let at : t.result ≡ c.loop-k.at + length (sends s) = t.ensures.at ∙ ap (λ (x : Settings). c.loop-k.at + length (sends x)) i.0 in
     let area : t.new.area ≡ paste c.loop-k.area c.loop-k.at (sends s) (length (sends s)) = t.ensures.area ∙ ap (λ (x : Settings). paste c.loop-k.area c.loop-k.at (sends x) (length (sends x))) i.0 in
@@ -64,7 +64,7 @@ loop-k-preserved c =
           (
             y ∙ i.1.1.1.0,
             λ cells.
-                turned_more a.slot a.q (bridge_of cells a.b.now) a.area.now shift.base shift.target c.shift_of.ensures.0 c.shift_of.ensures.1 (bridge_of cells c.loop-k.b) (bridge_of cells t.new.b) c.loop-k.area t.new.area c.loop-k.at t.result k (i.1.1.1.1 cells) (tables cells) at area,
+                turned_more a.slot.number a.q (bridge_of cells a.b.now) a.area.now shift.base shift.target c.shift_of.ensures.0 c.shift_of.ensures.1 (bridge_of cells c.loop-k.b) (bridge_of cells t.new.b) c.loop-k.area t.new.area c.loop-k.at t.result k (i.1.1.1.1 cells) (tables cells) at area,
           ),
         ),
       ),

@@ -11,4 +11,4 @@ invariant-loop-k l =
     × ((available tag_count l.b.core.free + l.k ≡ available tag_count l.initial.b.core.free)
     × ((l.at ≤ 16 * l.k)
     × ((length l.area ≡ length l.initial.area)
-    × ((cells : List ℕ) → Turned l.fn.slot l.fn.q (bridge_of cells l.initial.b) (bridge_of cells l.b) l.initial.area l.area l.at l.k))))
+    × ((cells : List ℕ) → Turned l.fn.slot.number l.fn.q (bridge_of cells l.initial.b) (bridge_of cells l.b) l.initial.area l.area l.at l.k))))

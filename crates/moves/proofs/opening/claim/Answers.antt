@@ -4,4 +4,4 @@ use Rattle.moves.proofs.opening.claim.Goals as goal
 
 pub returns : goal.returns
 unfolding claimed
-returns c = λ cells. rw (← c.length-n.ensures.0, ← c.piece_count.ensures) (put_slot cells c.args.b.now c.args.slot _)
+returns c = λ cells. rw (← c.length-n.ensures.0, ← c.piece_count.ensures) (put_slot cells c.args.b.now c.args.slot.number _)

@@ -7,5 +7,5 @@ use Rattle.moves.proofs.slots.close_piece.Goals as goal
 
 pub returns-else-row-le1 : goal.returns-else-row-le1
 unfolding piece_closed
-returns-else-row-le1 c = λ cells. let b = c.args.b.now in let k = c.args.k in
+returns-else-row-le1 c = λ cells. let b = c.args.b.now in let k = c.args.k.number in
     rw (pieces_cell b.slots k, lt-leb _ _ c.if-row-le1.false) (ap (λ (x : Bridge). held x c.args.store.now) (put_pieces_lem cells b k ((slot_row b k).pieces - 1)))

@@ -5,4 +5,4 @@ use Rattle.moves.proofs.slots.fault.Goals as goal
 
 pub returns-then-place-row : goal.returns-then-place-row
 unfolding faulted
-returns-then-place-row c = λ cells. rw (fault_cell c.args.b.now.slots c.args.k, lt-ltb _ _ c.if-place-row.true) (put_fault_cause cells c.args.b.now c.args.k c.args.place c.args.code)
+returns-then-place-row c = λ cells. rw (fault_cell c.args.b.now.slots c.args.k.number, lt-ltb _ _ c.if-place-row.true) (put_fault_cause cells c.args.b.now c.args.k.number c.args.place c.args.code)

@@ -8,11 +8,11 @@ use Rattle.moves.proofs.slots.finish.Goals as goal
 
 pub returns-then-row-ne0 : goal.returns-then-row-ne0
 unfolding finished
-returns-then-row-ne0 c = λ cells. let b = c.args.b.now in let k = c.args.k in
+returns-then-row-ne0 c = λ cells. let b = c.args.b.now in let k = c.args.k.number in
     rw (cause_cell b.slots k, ne_eqb _ _ c.if-row-ne0.true, size_cell b.slots k, c.clear_slot.ensures, c.within_slot.ensures.0)
     (ap (λ (x : Bridge). held x (zeroed k (min (slot_row b k).size slot_size) c.args.store.now)) (put_state_pieces cells b k 2 0))
 
 pub returns-else-row-ne0 : goal.returns-else-row-ne0
 unfolding finished
-returns-else-row-ne0 c = λ cells. let b = c.args.b.now in let k = c.args.k in
+returns-else-row-ne0 c = λ cells. let b = c.args.b.now in let k = c.args.k.number in
     rw (cause_cell b.slots k, eq-eqb _ _ c.if-row-ne0.false) (ap (λ (x : Bridge). held x c.args.store.now) (put_state_pieces cells b k 2 0))

@@ -10,6 +10,6 @@ pub advance-requires : goal.advance-requires
 advance-requires c =
     let a = c.args in
     let f = c.fail.ensures [] in
-    let m : c.fail.new.b.missing ≡ a.b.now.missing = ap (λ (x : Bridge). x.missing) f ∙ missing_stays a.self.slot _ Poison (bridge_of [] a.b.now) in
-    let p : places_of c.fail.new.b.tags ≡ places_of a.b.now.tags = ap (λ (x : Bridge). x.place) f ∙ place_stays a.self.slot _ Poison (bridge_of [] a.b.now) in
+    let m : c.fail.new.b.missing ≡ a.b.now.missing = ap (λ (x : Bridge). x.missing) f ∙ missing_stays a.self.slot.number _ Poison (bridge_of [] a.b.now) in
+    let p : places_of c.fail.new.b.tags ≡ places_of a.b.now.tags = ap (λ (x : Bridge). x.place) f ∙ place_stays a.self.slot.number _ Poison (bridge_of [] a.b.now) in
     rw (m, p) c.requires
