@@ -30,6 +30,7 @@ pub struct Opening {
 
 impl Opening {
     // The k-th piece is opened, and its header sent; where the next packet goes.
+    // Kept: a place in the area, as in `put_packet`; the clause `area` says what stays.
     pub fn turn(self, b: &mut State, k: u32, area: &mut [u8], at: usize) -> usize
         requires { (lowest tag_count b.old.core.free < tag_count) × ((self.bytes ≡ length_of self.burst) × ((self.burst.start.0 + self.bytes ≤ 2 ^ 64) × ((k < piece_count b.old.settings.reads self.burst.start.0 self.bytes) × (at + 16 ≤ length area.old)))) }
         ensures tables { (cells : List ℕ) → bridge_of cells b.new ≡ opened (memory_pending self.slot (place_in self.burst (piece_of b.old.settings.reads self.burst k)) (piece_of b.old.settings.reads self.burst k).length (translated self.shift.base self.shift.target (axi (piece_of b.old.settings.reads self.burst k).first)).0) (bridge_of cells b.old) }

@@ -101,6 +101,7 @@ pub fn head_of(q: Request) -> Head
 }
 
 // The packet of some bytes, which go to address a, and where the next one goes. One that the area cannot hold is left out.
+// Kept, here and where a piece is sent: a place in the area, since `Put` says of the whole area what stays.
 pub fn put_packet(requester: u32, a: PcieAddress, bytes: &[u8], area: &mut [u8], at: usize) -> usize
     requires { (length bytes.now ≤ 4096) × (at ≤ length area.old) }
     ensures { Put area.old at (packet (memory_request true requester 0 a.0 (length bytes.now)) (words_of a.0 bytes.now)) result area.new }

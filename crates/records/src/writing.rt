@@ -24,6 +24,7 @@ const COUNTS: u64 = 1 << 32;
 
 // A record in numbers: its kind; its fields with their padding, as far as they go, in the bytes of `high` and those of `low`
 // behind them; and how many of the bytes lent beside it follow.
+// Kept: numbers with a length, in which fields are joined by shifts, as the layout's bits are (`Lays`).
 #[derive(Clone, Copy, Debug, PartialEq, Eq)]
 struct Parts {
     kind: Kind,

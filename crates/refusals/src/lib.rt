@@ -37,7 +37,7 @@ pub enum Refusal {
 }
 
 impl Response {
-    // Its number: AXI's coding where the bus has one.
+    // Its number: AXI's coding where the bus has one. Kept: a `match`, as below.
     pub fn code(self) -> u32
         ensures { result ≡ code_of self }
     {
@@ -52,7 +52,7 @@ impl Response {
 }
 
 impl Refusal {
-    // Its number in the table.
+    // Its number in the table. Kept: a `match` and no cast, in which the column is seen.
     pub fn number(self) -> u32
         ensures { result ≡ number_of self }
     {
