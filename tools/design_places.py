@@ -66,13 +66,23 @@ POINTS = {
     "5 functions of more than six parameters": many,
     "5 functions that are lent two parts or more of the bridge's state": lent,
     "6 columns in a flat array": find(r"^pub const (SENT|OWNER|PLACE|NEXT|KIND|STATE|SIZE|PIECES|FAULT|CAUSE|SESSION): usize.*"),
-    "5 contracts that ask for the store's length": find(r"^\s*requires .*store_size ≤ length.*"),
-    "5 contracts that ask that a number is a read slot's": find(r"^\s*requires .*(k|slot|s) < slot_count.*"),
-    "5 contracts that ask for the room of a reader's record": find(r"^\s*requires .*most_held.* ≤ length.*"),
-    "5 contracts that ask for 12 bytes of a header": find(r"^\s*requires .*12 ≤ length s.*"),
-    "5 contracts that ask for the room of a row": find(r"^\s*requires .*row_size ≤ length.*"),
     "6 a place in a buffer handed from call to call": find(r"(line|out): &mut \[u8; \w+\], at: usize|area: &mut \[u8\],\s+at: usize,?\s*\) -> usize"),
 }
+
+
+def facts(texts):
+    """What three contracts or more ask for, each with how many do. The values' names and moments are left out."""
+    asked = {}
+    for text in texts.values():
+        for m in re.finditer(r"^\s*requires (?:\w+ )?\{(.*)\}\s*$", text, re.M):
+            for fact in m.group(1).split("×"):
+                fact = fact.strip().lstrip("(")
+                while fact.endswith(")") and fact.count("(") < fact.count(")"):
+                    fact = fact[:-1]
+                fact = re.sub(r"\b(self|b|c|h|a|q|s|l)\.(old\.|now\.)?|\.(old|now)\b", "", fact.strip())
+                fact = re.sub(r"^(k|slot) <", "slot <", re.sub(r"^t(ag)? <", "tag <", fact))
+                asked[fact] = asked.get(fact, 0) + 1
+    return sorted(((n, f) for f, n in asked.items() if n > 2), reverse=True)
 
 
 def main():
@@ -86,6 +96,11 @@ def main():
         if want:
             for f, line, w in found:
                 print(f"       {f}:{line}: {w}")
+    found = facts(texts)
+    if not want or want[0] == "5":
+        print(f"{len(found):5}  5 facts that three contracts or more ask for, {sum(n for n, _ in found)} times in all")
+        for n, fact in found if want else []:
+            print(f"       {n} times: {fact}")
     print(f"{sum(t.count(chr(10)) for t in texts.values()):5}  lines of src")
     files = run("git", "ls-tree", "-r", "--name-only", commit, "crates").split()
     proofs = [f for f in files if "/proofs/" in f and f.endswith(".antt")]
