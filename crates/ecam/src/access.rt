@@ -4,7 +4,7 @@ ghost use Rattle.ecam.specs.Offset.{register, extended, function, device, bus, w
 ghost use Rattle.ecam.specs.Route.{out_of_range, route};
 ghost use Rattle.ecam.specs.Request.{config_address, config_target, config_request};
 ghost use Rattle.ecam.specs.Code.Struct.{registers_from};
-ghost use Rattle.ecam.specs.Code.Routed.{outcome, route_in};
+ghost use Rattle.ecam.specs.Code.Routed.{outcome, route_in, route_to};
 
 use crate::registers::Registers;
 use refusals::Refusal;
@@ -122,20 +122,31 @@ impl Access {
         }
     }
 
+    // A refused route has a target too, by type 0.
+    #[tactic(auto, using(crate::proofs::Routed::refused_target))]
+    fn target_of(self, to: Result<Route, Refusal>) -> Target
+        ensures { result ≡ config_target (route_to to) self.offset }
+    {
+        match to {
+            Ok(x) => self.target(x),
+            Err(_) => self.target(Route::Type0),
+        }
+    }
+
     fn first_enables(self) -> u32
         ensures { result ≡ cond self.write (self.strobes % 16) 15 }
     {
         if self.write { self.strobes % 16 } else { 15 }
     }
 
-    // The request of a routed access.
+    // The request of an access by its route, routed or not.
     #[tactic(auto, unfolding(crate::specs::Request::config_request))]
-    pub fn request(self, x: Route, requester: u32, tag: u32) -> Request
-        ensures { result ≡ config_request (route_in x) self.offset self.write self.strobes requester tag }
+    pub fn request(self, to: Result<Route, Refusal>, requester: u32, tag: u32) -> Request
+        ensures { result ≡ config_request (route_to to) self.offset self.write self.strobes requester tag }
     {
         Request {
             write: self.write,
-            target: self.target(x),
+            target: self.target_of(to),
             length: 1,
             requester,
             tag,

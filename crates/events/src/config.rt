@@ -23,10 +23,10 @@ pub fn config_in(b: &mut State, cells: &[u32; DEPTH], a: Access, area: &mut [u8]
         Err(why) => return b.core.refuse(why),
     };
     let mut sent = 0;
-    if goes_out(x) {
-        sent = routed(b, x, a, area);
+    if goes_out(Ok(x)) {
+        sent = routed(b, Ok(x), a, area);
     } else {
-        stay(&mut b.core, cells, x, a);
+        stay(&mut b.core, cells, Ok(x), a);
     }
     Ok(Accepted::sent(Response::Nothing, CONFIG_SLOT, sent))
 }

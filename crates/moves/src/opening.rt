@@ -53,7 +53,8 @@ impl Opening {
 // A slot waits for a burst, which is accepted in this session.
 #[tactic(auto, unfolding(machine::specs::Memory::claimed))]
 pub fn claim(b: &mut State, slot: ReadSlot, q: Burst)
-    ensures { (cells : List ℕ) → bridge_of cells b.new ≡ claimed slot.number q (bridge_of cells b.old) }
+    ensures tables { (cells : List ℕ) → bridge_of cells b.new ≡ claimed slot.number q (bridge_of cells b.old) }
+    ensures core { b.new.core ≡ b.old.core }
 {
     let n = q.length();
     b.slots[slot.number] = SlotRow {

@@ -4,7 +4,7 @@ ghost use Rattle.tags.specs.Tags.{lowest};
 ghost use Rattle.packets.specs.Packets.{filled, packet};
 ghost use Rattle.parts.specs.Sizes.{tag_count};
 ghost use Rattle.parts.specs.Cores.{with_config};
-ghost use Rattle.ecam.specs.Code.Routed.{route_in};
+ghost use Rattle.ecam.specs.Code.Routed.{route_to};
 ghost use Rattle.parts.specs.Access.{area_size};
 ghost use Rattle.parts.specs.Code.Struct.{core_from};
 ghost use Rattle.machine.specs.Bridge.{core_in};
@@ -19,15 +19,17 @@ use common::copy_at;
 use ecam::{Access, Route};
 use messages::queue::DEPTH;
 use parts::{ConfigSlot, Core, Pending, State};
+use refusals::Refusal;
 use tlp::request::{Request, write_request};
 
 // What an access that does not go out leaves in the core.
-pub fn stay(c: &mut Core, cells: &[u32; DEPTH], x: Route, a: Access)
-    ensures { core_from c.new cells.now ≡ stayed (core_from c.old cells.now) a (route_in x) }
+#[tactic(auto, using(crate::proofs::Staying::refused_kept))]
+pub fn stay(c: &mut Core, cells: &[u32; DEPTH], to: Result<Route, Refusal>, a: Access)
+    ensures { core_from c.new cells.now ≡ stayed (core_from c.old cells.now) a (route_to to) }
 {
-    match x {
-        Route::Local(w) => c.finish_local(cells, a, w),
-        Route::Type0 | Route::Type1 => {}
+    match to {
+        Ok(Route::Local(w)) => c.finish_local(cells, a, w),
+        Ok(Route::Type0 | Route::Type1) | Err(_) => {}
     }
 }
 
@@ -48,14 +50,14 @@ pub fn send(q: Request, write: bool, word: u32, area: &mut [u8]) -> usize
 }
 
 // A routed access: one piece of 4 bytes for the configuration slot, and its request; how many bytes were sent.
-pub fn routed(b: &mut State, x: Route, a: Access, area: &mut [u8]) -> usize
+pub fn routed(b: &mut State, to: Result<Route, Refusal>, a: Access, area: &mut [u8]) -> usize
     requires { (lowest tag_count b.old.core.free < tag_count) × (area_size ≤ length area.old) }
     ensures tables { (cells : List ℕ) → bridge_of cells b.new ≡ opened (word_pending a.write) (core_in (with_config (open_config a.write (figures_now (core_from b.old.core cells))) (core_from b.old.core cells)) (bridge_of cells b.old)) }
-    ensures sent { result ≡ length (packet (routed_request (route_in x) a b.old.settings.requester (lowest tag_count b.old.core.free)) (payload_of a.write a.word)) }
-    ensures area { area.new ≡ filled (packet (routed_request (route_in x) a b.old.settings.requester (lowest tag_count b.old.core.free)) (payload_of a.write a.word)) area.old }
+    ensures sent { result ≡ length (packet (routed_request (route_to to) a b.old.settings.requester (lowest tag_count b.old.core.free)) (payload_of a.write a.word)) }
+    ensures area { area.new ≡ filled (packet (routed_request (route_to to) a b.old.settings.requester (lowest tag_count b.old.core.free)) (payload_of a.write a.word)) area.old }
 {
     let tag = tags::lowest(b.core.free);
-    let q = a.request(x, b.settings.requester, tag);
+    let q = a.request(to, b.settings.requester, tag);
     let sent = send(q, a.write, a.word, area);
     b.core.config = ConfigSlot::open(a.write, b.core.figures());
     open(b, Pending::word(a.write));

@@ -23,7 +23,8 @@ pub fn clear_slot(store: &mut [u8], k: ReadSlot, n: usize)
 // A piece of slot k failed at this place.
 #[tactic(auto, unfolding(machine::specs::Completions::faulted))]
 pub fn fault(b: &mut State, k: ReadSlot, place: u32, code: u32)
-    ensures { (cells : List ℕ) → bridge_of cells b.new ≡ faulted k.number place code (bridge_of cells b.old) }
+    ensures tables { (cells : List ℕ) → bridge_of cells b.new ≡ faulted k.number place code (bridge_of cells b.old) }
+    ensures core { b.new.core ≡ b.old.core }
 {
     let row = b.slots[k.number];
     if place < row.fault {
@@ -48,7 +49,8 @@ pub fn fail(b: &mut State, k: ReadSlot, place: u32, why: Cause)
 #[tactic(auto, unfolding(machine::specs::Completions::finished))]
 pub fn finish(b: &mut State, store: &mut [u8], k: ReadSlot)
     requires { store_size ≤ length store.old }
-    ensures { (cells : List ℕ) → held_of cells b.new store.new ≡ finished k.number (held_of cells b.old store.old) }
+    ensures tables { (cells : List ℕ) → held_of cells b.new store.new ≡ finished k.number (held_of cells b.old store.old) }
+    ensures core { b.new.core ≡ b.old.core }
 {
     let row = b.slots[k.number];
     b.slots[k.number] = SlotRow {
@@ -65,7 +67,8 @@ pub fn finish(b: &mut State, store: &mut [u8], k: ReadSlot)
 #[tactic(auto, unfolding(machine::specs::Completions::piece_closed))]
 pub fn close_piece(b: &mut State, store: &mut [u8], k: ReadSlot)
     requires { store_size ≤ length store.old }
-    ensures { (cells : List ℕ) → held_of cells b.new store.new ≡ piece_closed k.number (held_of cells b.old store.old) }
+    ensures tables { (cells : List ℕ) → held_of cells b.new store.new ≡ piece_closed k.number (held_of cells b.old store.old) }
+    ensures core { b.new.core ≡ b.old.core }
 {
     let row = b.slots[k.number];
     if row.pieces <= 1 {
@@ -82,7 +85,8 @@ pub fn close_piece(b: &mut State, store: &mut [u8], k: ReadSlot)
 #[tactic(auto, unfolding(machine::specs::Ticks::drop_slot))]
 pub fn drop_slot(b: &mut State, store: &mut [u8], k: ReadSlot)
     requires { store_size ≤ length store.old }
-    ensures { (cells : List ℕ) → held_of cells b.new store.new ≡ drop_slot (held_of cells b.old store.old) k.number }
+    ensures tables { (cells : List ℕ) → held_of cells b.new store.new ≡ drop_slot (held_of cells b.old store.old) k.number }
+    ensures core { b.new.core ≡ b.old.core }
 {
     let row = b.slots[k.number];
     if row.state == OPEN {

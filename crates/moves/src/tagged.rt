@@ -32,7 +32,8 @@ pub fn open(b: &mut State, p: Pending)
 #[tactic(auto, unfolding(machine::specs::State::shut))]
 pub fn shut(b: &mut State, t: usize)
     requires { t < tag_count }
-    ensures { (cells : List ℕ) → bridge_of cells b.new ≡ shut t (bridge_of cells b.old) }
+    ensures tables { (cells : List ℕ) → bridge_of cells b.new ≡ shut t (bridge_of cells b.old) }
+    ensures core { b.new.core ≡ b.old.core }
 {
     b.missing[t] = 0;
 }
@@ -57,7 +58,8 @@ pub fn lower_after(next: u32, n: u32) -> u32
 #[tactic(auto, unfolding(machine::specs::State::counted))]
 pub fn count(b: &mut State, t: usize, n: u32)
     requires { (t < tag_count) × ((n ≤ get_or b.old.missing t 0) × (get_or (places_of b.old.tags) t 0 + n ≤ slot_size)) }
-    ensures { (cells : List ℕ) → bridge_of cells b.new ≡ counted t n (bridge_of cells b.old) }
+    ensures tables { (cells : List ℕ) → bridge_of cells b.new ≡ counted t n (bridge_of cells b.old) }
+    ensures core { b.new.core ≡ b.old.core }
 {
     let row = b.tags[t];
     b.missing[t] -= n;

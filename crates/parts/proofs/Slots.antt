@@ -12,15 +12,15 @@ inside [] i d e h = let z : ◌≡◌ {A = ℕ} 0 1 = omega arith in cc
 inside (x ∷ l) zero d e h = refl
 inside (x ∷ l) (suc i) d e h = inside l i d e (omega arith)
 
-free_none : (s : List ℕ) (k : ℕ) → free_slot_from s k 0 ≡ k
+pub free_none : (s : List ℕ) (k : ℕ) → free_slot_from s k 0 ≡ k
 unfolding free_slot_from
 free_none s k = refl
 
-free_hit : (s : List ℕ) (k n : ℕ) → k < length s → get_or s k 0 ≡ 0 → free_slot_from s k (suc n) ≡ k
+pub free_hit : (s : List ℕ) (k n : ℕ) → k < length s → get_or s k 0 ≡ 0 → free_slot_from s k (suc n) ≡ k
 unfolding free_slot_from
 free_hit s k n h e = let f : get_or s k 1 ≡ 0 = inside s k 1 0 h ∙ e in rw (eq-eqb _ _ f)
 
-free_on : (s : List ℕ) (k n : ℕ) → k < length s → (get_or s k 0 ≡ 0 → ⊥) → free_slot_from s k (suc n) ≡ free_slot_from s (k + 1) n
+pub free_on : (s : List ℕ) (k n : ℕ) → k < length s → (get_or s k 0 ≡ 0 → ⊥) → free_slot_from s k (suc n) ≡ free_slot_from s (k + 1) n
 unfolding free_slot_from
 free_on s k n h e = let f : get_or s k 1 ≡ 0 → ⊥ = λ x. e (inside s k 0 1 h ∙ x) in rw (ne_eqb _ _ f, add-one k)
 

@@ -7,7 +7,7 @@ ghost use Rattle.ecam.specs.Route as routes;
 ghost use Rattle.ecam.specs.Route.{route};
 ghost use Rattle.ecam.specs.Request.{data_word};
 ghost use Rattle.ecam.specs.Code.Struct.{registers_from};
-ghost use Rattle.ecam.specs.Code.Routed.{outcome, route_in};
+ghost use Rattle.ecam.specs.Code.Routed.{outcome, route_in, route_to};
 ghost use Rattle.verdict.specs.declared.Verdict.TheVariants.{Failed};
 ghost use Rattle.verdict.specs.Verdict.{slverr};
 ghost use Rattle.parts.specs.Cores.{with_config, raised_core, free_config, open_config};
@@ -21,11 +21,15 @@ use messages::queue::DEPTH;
 use refusals::Refusal;
 use verdict::{Cause, Verdict};
 
-// Whether the request goes out over the link.
-pub fn goes_out(x: Route) -> bool
-    ensures { result ≡ goes_out (route_in x) }
+// Whether the request goes out over the link; that of a refused route does not.
+#[tactic(auto, using(crate::proofs::Refused::refused_stays))]
+pub fn goes_out(to: Result<Route, Refusal>) -> bool
+    ensures { result ≡ goes_out (route_to to) }
 {
-    matches!(x, Route::Type0 | Route::Type1)
+    match to {
+        Ok(x) => matches!(x, Route::Type0 | Route::Type1),
+        Err(_) => false,
+    }
 }
 
 // The data word of an answer: 0 for a write.
@@ -125,10 +129,10 @@ impl Core {
             return Err(Refusal::ConfigBusy);
         }
         let x = to?;
-        if goes_out(x) && !self.registers.link {
+        if goes_out(to) && !self.registers.link {
             return Err(Refusal::LinkDown);
         }
-        if goes_out(x) && tags::available(self.free) == 0 {
+        if goes_out(to) && tags::available(self.free) == 0 {
             return Err(Refusal::FewTags);
         }
         Ok(x)

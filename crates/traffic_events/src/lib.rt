@@ -24,9 +24,9 @@ pub struct Lent<'a> {
 
 #[derive(Clone, Copy)]
 pub struct Player {
-    bridge: Bridge,
+    pub bridge: Bridge,
     // The checksum of the store.
-    sum: u32,
+    pub sum: u32,
 }
 
 fn burst_in(f: &[u8]) -> Burst {

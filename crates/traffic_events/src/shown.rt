@@ -19,14 +19,11 @@ impl fmt::Display for Shown<Response> {
     }
 }
 
-// The session number stands there where it is not 0. A refused event shows its refusal's response, and zeros.
+// The session number stands there where it is not 0. What a refused event shows, its row's response and zeros, `Accepted::of` says.
 impl fmt::Display for Shown<Answer> {
     fn fmt<W: fmt::Write>(&self, f: &mut fmt::Formatter<W>) -> fmt::Result {
         let number = number_in(self.0);
-        let a = match self.0 {
-            Ok(a) => a,
-            Err(why) => Accepted::sent(why.response(), 0, 0),
-        };
+        let a = Accepted::of(self.0);
         let response = Shown(a.response);
         let session = a.figures.session;
         write!(

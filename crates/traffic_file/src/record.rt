@@ -1,6 +1,6 @@
 // Records: how long their parts are, and which fields are wrong.
 ghost use Rattle.std.specs.Prelude.{◌≡◌, MatchResult};
-ghost use Rattle.traffic_file.specs.Kinds.{number_of};
+ghost use Rattle.traffic_file.specs.Kinds.{number_of, IsNoKind};
 ghost use Rattle.traffic_file.specs.Records.{fixed_size, variable_size, ticks_of, lends_area, lends_store, is_header, lent_wrong, rest_wrong, is_wrong};
 
 use std::fmt;
@@ -39,31 +39,26 @@ pub enum Kind {
 #[derive(Clone, Copy, Debug, PartialEq, Eq)]
 pub struct NoKind;
 
+// By its number; of a number that no kind has, what is said of none.
+impl TryFrom<u32> for Kind {
+    type Error = NoKind;
+
+    ghost try_from_gives = { λ n r. MatchResult r (λ kind. number_of kind ≡ n) (λ _. IsNoKind n) };
+
+    #[tactic(auto, using(crate::proofs::Others::no_kind))]
+    fn try_from(n: u32) -> Result<Kind, NoKind> {
+        Kind::of(n)
+    }
+}
+
 // By the kind byte.
 impl TryFrom<u8> for Kind {
     type Error = NoKind;
 
-    ghost try_from_gives = { λ n r. MatchResult r (λ kind. number_of kind ≡ n) (λ _. fixed_size n ≡ 0) };
+    ghost try_from_gives = { λ n r. MatchResult r (λ kind. number_of kind ≡ n) (λ _. IsNoKind n) };
 
-    #[tactic(auto, unfolding(crate::specs::Records::fixed_size))]
     fn try_from(n: u8) -> Result<Kind, NoKind> {
-        match n {
-            1 => Ok(Kind::Read),
-            2 => Ok(Kind::Write),
-            3 => Ok(Kind::Config),
-            4 => Ok(Kind::Completion),
-            5 => Ok(Kind::Tick),
-            6 => Ok(Kind::Link),
-            7 => Ok(Kind::Look),
-            8 => Ok(Kind::Release),
-            9 => Ok(Kind::RequestWriter),
-            10 => Ok(Kind::RequestReader),
-            11 => Ok(Kind::CompletionWriter),
-            12 => Ok(Kind::CompletionReader),
-            13 => Ok(Kind::Message),
-            255 => Ok(Kind::End),
-            _ => Err(NoKind),
-        }
+        Kind::try_from(u32::from(n))
     }
 }
 
@@ -90,6 +85,29 @@ impl fmt::Display for Kind {
 }
 
 impl Kind {
+    #[tactic(auto, unfolding(crate::specs::Records::fixed_size))]
+    fn of(n: u32) -> Result<Kind, NoKind>
+        ensures { MatchResult result (λ kind. number_of kind ≡ n) (λ _. fixed_size n ≡ 0) }
+    {
+        match n {
+            1 => Ok(Kind::Read),
+            2 => Ok(Kind::Write),
+            3 => Ok(Kind::Config),
+            4 => Ok(Kind::Completion),
+            5 => Ok(Kind::Tick),
+            6 => Ok(Kind::Link),
+            7 => Ok(Kind::Look),
+            8 => Ok(Kind::Release),
+            9 => Ok(Kind::RequestWriter),
+            10 => Ok(Kind::RequestReader),
+            11 => Ok(Kind::CompletionWriter),
+            12 => Ok(Kind::CompletionReader),
+            13 => Ok(Kind::Message),
+            255 => Ok(Kind::End),
+            _ => Err(NoKind),
+        }
+    }
+
     // The bytes of the fixed fields after the kind byte.
     #[tactic(auto, unfolding(crate::specs::Records::fixed_size))]
     pub fn fixed_size(self) -> usize

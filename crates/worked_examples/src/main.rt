@@ -241,31 +241,26 @@ fn w12(m: &mut Lent) -> bool {
     )
 }
 
-// Whether each example comes out as it should.
-fn examples(m: &mut Lent) -> [bool; 12] {
-    [
-        w1(m),
-        w2(m),
-        w3(m),
-        w4(m),
-        w5(m),
-        w6(m),
-        w7(m),
-        w8(m),
-        w9(m),
-        w10(m),
-        w11(m),
-        w12(m),
-    ]
+fn report(rt: &(impl Print + Eprint), k: u32, same: bool) -> Result<(), WriteFailed> {
+    let found = if same { "same" } else { "differs" };
+    print(rt, format_args!("W{k} {found}"))
 }
 
-// The lines of the examples; the first that cannot be written is the last.
-fn report(rt: &(impl Print + Eprint), same: [bool; 12]) -> Result<(), WriteFailed> {
+// The lines of the examples, each written before the next is played; the first that cannot be written is the last.
+fn examples(rt: &(impl Print + Eprint), m: &mut Lent) -> Result<(), WriteFailed> {
     print(rt, "bridge")?;
-    for (k, same) in same.iter().enumerate() {
-        let found = if *same { "same" } else { "differs" };
-        print(rt, format_args!("W{} {found}", k + 1))?;
-    }
+    report(rt, 1, w1(m))?;
+    report(rt, 2, w2(m))?;
+    report(rt, 3, w3(m))?;
+    report(rt, 4, w4(m))?;
+    report(rt, 5, w5(m))?;
+    report(rt, 6, w6(m))?;
+    report(rt, 7, w7(m))?;
+    report(rt, 8, w8(m))?;
+    report(rt, 9, w9(m))?;
+    report(rt, 10, w10(m))?;
+    report(rt, 11, w11(m))?;
+    report(rt, 12, w12(m))?;
     print(rt, "done 12")
 }
 
@@ -274,5 +269,5 @@ fn main(rt: HostRuntime) {
         store: &mut [0; STORE_SIZE],
         area: &mut [0; AREA_SIZE],
     };
-    let _ = report(&rt, examples(&mut m));
+    let _ = examples(&rt, &mut m);
 }

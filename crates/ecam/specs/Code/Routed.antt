@@ -20,3 +20,14 @@ abbrev pub route_in : declared.Route → Route
 route_in (code.Local w) = Local w
 route_in code.Type0 = Type0
 route_in code.Type1 = Type1
+
+-- the route that is refused so; of a refusal that no route has, as of 10
+abbrev pub refused_route : Refusal → Route
+refused_route refusal.OffsetOver = OutOfRange
+refused_route refusal.WrongDevice = DeviceNotZero
+refused_route r = NotRouted
+
+-- the route, refused or not, that a result stands for
+abbrev pub route_to : Result declared.Route Refusal → Route
+route_to (Ok x) = route_in x
+route_to (Err r) = refused_route r

@@ -67,3 +67,7 @@ slot_or_none (Some k) = k
 abbrev pub answer_of : Result Accepted Refusal → Answer
 answer_of (Ok a) = record { number = 0; response = a.response; slot = a.slot; length = a.length; word = a.word; figures = a.figures }
 answer_of (Err r) = refusal (number_of r)
+
+-- what an event shows whose refusal number is n, 0 where it is accepted, and whose other fields are these
+abbrev pub shown : ℕ → Accepted → Answer
+shown n a = record { number = n; response = a.response; slot = a.slot; length = a.length; word = a.word; figures = a.figures }

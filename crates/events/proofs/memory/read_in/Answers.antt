@@ -37,8 +37,8 @@ read_pieces-sent-requires c =
     let a = c.args in
     let b = bridge_of [] a.b.now in
     let ok = read_ok b a.q (length a.area.now) (sym (c.in-Ok.ensures.number [])) in
-    let s : c.claim.new.b.settings ≡ a.b.now.settings = ap (λ (x : Bridge). x.settings) (c.claim.ensures []) ∙ settings_stay c.in-Ok.slot.number a.q b in
-    let f : c.claim.new.b.core.free ≡ a.b.now.core.free = ap (λ (x : Bridge). x.core.free) (c.claim.ensures []) ∙ free_stays c.in-Ok.slot.number a.q b in
+    let s : c.claim.new.b.settings ≡ a.b.now.settings = ap (λ (x : Bridge). x.settings) (c.claim.ensures.tables []) ∙ settings_stay c.in-Ok.slot.number a.q b in
+    let f : c.claim.new.b.core.free ≡ a.b.now.core.free = ap (λ (x : Bridge). x.core.free) (c.claim.ensures.tables []) ∙ free_stays c.in-Ok.slot.number a.q b in
     rw (s, f) (ok.tags, ok.area)
 
 pub returns-in-Ok-clause-step : goal.returns-in-Ok-clause-step
@@ -47,10 +47,10 @@ returns-in-Ok-clause-step c = λ cells.
     let b = bridge_of cells a.b.now in
     let t = c.read_pieces-sent in
     let es : c.in-Ok.slot.number ≡ free_slot b = c.in-Ok.ensures.slot cells c.in-Ok.slot refl in
-    let s : c.claim.new.b.settings ≡ a.b.now.settings = ap (λ (x : Bridge). x.settings) (c.claim.ensures cells) ∙ settings_stay c.in-Ok.slot.number a.q b in
+    let s : c.claim.new.b.settings ≡ a.b.now.settings = ap (λ (x : Bridge). x.settings) (c.claim.ensures.tables cells) ∙ settings_stay c.in-Ok.slot.number a.q b in
     rw c.sent.ensures
     (read_done b (bridge_of cells c.claim.new.b) (bridge_of cells t.new.b) a.q c.in-Ok.slot.number t.result a.area.now t.new.area es (sym (c.in-Ok.ensures.number cells))
-    (c.claim.ensures cells)
+    (c.claim.ensures.tables cells)
     (t.ensures.tables cells ∙ ap (λ (x : Settings). read_to c.in-Ok.slot.number a.q (bridge_of cells c.claim.new.b) (pieces_of x.reads a.q)) s)
     (t.ensures.sent cells ∙ ap (λ (x : Settings). length (read_sent c.in-Ok.slot.number a.q (bridge_of cells c.claim.new.b) (pieces_of x.reads a.q))) s)
     (t.ensures.area cells ∙ ap (λ (x : Settings). filled (read_sent c.in-Ok.slot.number a.q (bridge_of cells c.claim.new.b) (pieces_of x.reads a.q)) a.area.now) s)).0
@@ -61,9 +61,9 @@ returns-in-Ok-clause-area c = λ cells.
     let b = bridge_of cells a.b.now in
     let t = c.read_pieces-sent in
     let es : c.in-Ok.slot.number ≡ free_slot b = c.in-Ok.ensures.slot cells c.in-Ok.slot refl in
-    let s : c.claim.new.b.settings ≡ a.b.now.settings = ap (λ (x : Bridge). x.settings) (c.claim.ensures cells) ∙ settings_stay c.in-Ok.slot.number a.q b in
+    let s : c.claim.new.b.settings ≡ a.b.now.settings = ap (λ (x : Bridge). x.settings) (c.claim.ensures.tables cells) ∙ settings_stay c.in-Ok.slot.number a.q b in
     (read_done b (bridge_of cells c.claim.new.b) (bridge_of cells t.new.b) a.q c.in-Ok.slot.number t.result a.area.now t.new.area es (sym (c.in-Ok.ensures.number cells))
-    (c.claim.ensures cells)
+    (c.claim.ensures.tables cells)
     (t.ensures.tables cells ∙ ap (λ (x : Settings). read_to c.in-Ok.slot.number a.q (bridge_of cells c.claim.new.b) (pieces_of x.reads a.q)) s)
     (t.ensures.sent cells ∙ ap (λ (x : Settings). length (read_sent c.in-Ok.slot.number a.q (bridge_of cells c.claim.new.b) (pieces_of x.reads a.q))) s)
     (t.ensures.area cells ∙ ap (λ (x : Settings). filled (read_sent c.in-Ok.slot.number a.q (bridge_of cells c.claim.new.b) (pieces_of x.reads a.q)) a.area.now) s)).1
