@@ -5,6 +5,7 @@ use address::{AxiAddress, Settings};
 use bridge::{Answer, Bridge, Refusal, Response};
 use burst::Burst;
 use ecam::Access;
+use events::tick::tick_in;
 use parts::{AREA_SIZE, STORE_SIZE};
 use streams::WriteFailed;
 use traffic_text::line::print;
@@ -104,11 +105,11 @@ impl Lent<'_> {
         c.release(self.store, 8).bridge
     }
 
-    // A bridge so many ticks later.
+    // A bridge many ticks later. Its state is lent to each: by value each would copy it three times.
     fn ticked(&mut self, b: Bridge, times: u32) -> Bridge {
         let mut c = b;
         for _ in 0..times {
-            c = c.tick(self.store).bridge;
+            let _ = tick_in(&mut c.state, self.store);
         }
         c
     }
@@ -213,8 +214,8 @@ fn w9(m: &mut Lent) -> bool {
 fn w10(m: &mut Lent) -> bool {
     let b = at_last_tick(m.up(settings(8, 2)));
     let sent = m.read(b, incr(0x12340ABC, 2, 1));
-    let zero = m.ticked(sent, 1);
-    let one = m.ticked(zero, 1);
+    let zero = sent.tick(m.store).bridge;
+    let one = zero.tick(m.store).bridge;
     m.release_refusal(zero) == Some(Refusal::NotFinished) && m.is_failed(one)
 }
 
