@@ -9,6 +9,7 @@ ghost use Rattle.burst.specs.Pieces.{piece_count, piece_at, Within};
 ghost use Rattle.burst.specs.Words.{word_address, word_count, enables, first_enables, last_enables, words_of};
 
 use address::AxiAddress;
+use common::copy_at;
 use refusals::Refusal;
 
 // A burst: its start, size code, number of beats and type.
@@ -181,6 +182,5 @@ pub fn put_words(dst: &mut [u8], at: usize, a: u64, src: &[u8])
     let low = (a % 4) as usize;
     let end = at + (low + src.len() + 3) / 4 * 4;
     dst[at..end].fill(0);
-    let first = at + low;
-    dst[first..first + src.len()].copy_from_slice(src);
+    copy_at(dst, at + low, src, src.len());
 }

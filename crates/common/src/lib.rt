@@ -14,12 +14,14 @@ pub fn zero_at(dst: &mut [u8], at: usize, n: usize)
 }
 
 // The first n bytes of src, put into dst from at on.
+// Kept: a loop; by `copy_from_slice` an archive for C wants `memmove` from outside.
 pub fn copy_at(dst: &mut [u8], at: usize, src: &[u8], n: usize)
     requires { (at + n ≤ length dst.old) × (n ≤ length src.now) }
     ensures { dst.new ≡ paste dst.old at src.now n }
 {
-    let end = at + n;
-    dst[at..end].copy_from_slice(&src[..n]);
+    for i in 0..n {
+        dst[at + i] = src[i];
+    }
 }
 
 // The decode bits that the code names, as PG194 does.

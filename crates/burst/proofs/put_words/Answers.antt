@@ -21,6 +21,5 @@ returns c =
     let m = (a % 4 + n + 3) / 4 * 4 in
     let z = put_mid at (at + m - at) d c.fill.new.self in
     let zeros : z ≡ paste d at (replicate m 0) m = search (rules, put_mid-paste) in
-    let copied : put_mid (at + a % 4) (at + a % 4 + n - (at + a % 4)) z c.copy_from_slice.new.self ≡ paste z (at + a % 4) s n = search (rules, put_mid-paste) in
     let g : m ≡ 4 * word_count a n = omega arith in
-    copied ∙ ap (λ x. paste x (at + a % 4) s n) zeros ∙ put_words d at a m n s refl g (omega arith)
+    c.copy_at.ensures ∙ ap (λ x. paste x (at + a % 4) s n) zeros ∙ put_words d at a m n s refl g (omega arith)
