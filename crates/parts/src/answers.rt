@@ -117,7 +117,7 @@ impl Core {
     }
 
     // What the row of a number changes, which need not stand in the table.
-    #[tactic(auto, using(crate::proofs::Changes::other_keeps), unfolding(crate::specs::Answers::refusal_change))]
+    #[tactic(auto, using(crate::proofs::Changes::other_number_keeps), unfolding(crate::specs::Answers::refusal_change))]
     pub fn change(&mut self, n: u32)
         ensures { (cells : List ℕ) → core_from self.new cells ≡ refusal_change n (core_from self.old cells) }
     {
